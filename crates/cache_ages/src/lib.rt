@@ -1,79 +1,104 @@
-//! One bin of the cache of large blocks, as numbers and ages: when a freed block is kept, when it is used
-//! again and when it goes back to the backend.
+//! One bin of the cache of large blocks, as numbers and ages: which freed block is used again, how long one is
+//! kept, and when it goes back to the backend.
 //!
-//! The rules are those of a bin of oneTBB's large object cache (`large_objects.cpp`), on plain numbers.
+//! The rules are those of a bin of oneTBB's large object cache (`large_objects.cpp`), said of plain numbers. That a
+//! bin has at most 64 items, and that time is a count of gets and puts, is this project's own.
 #![tactic(auto)]
 
-ghost use Rattle.std.specs.Prelude.{◌≡◌, ◌+◌, ◌-◌, ◌*◌, ◌/◌, ◌%◌, ◌^◌, ◌<◌, ◌≤◌, [], length};
-ghost use Rattle.cache_ages.specs.CacheSteps.{CanStep, step_of, after_get, after_hit, after_miss, after_put, after_undo, after_regular, after_soft, after_hard, after_release, after_cleanup, regular_threshold, span_between, plain_step, stale_count, ages_of};
+ghost use Rattle.std.specs.Prelude.{◌≡◌, ◌-◌, ◌^◌, ◌<◌, ◌≤◌, [], length};
+ghost use Rattle.cache_ages.specs.CacheSteps.{CanStep, step_of, plain_step, after_get, after_hit, after_miss, after_put, after_undo, after_release, after_cleanup, after_regular, after_soft, stale_count, ages_of};
+ghost use Rattle.cache_ages.specs.CacheLaws.{LeavesInOrder, put_by};
+
+pub mod laws;
+#[cfg(test)]
+mod tests;
 
 use arrayvec::ArrayVec;
 
 /// How many items a bin has at most.
-pub const MOST: usize = 64;
+pub const MOST_ITEMS: usize = 64;
 
-/// A get that misses makes the threshold this many times the time since the last release.
+/// At a get that misses the threshold becomes this many times the time since the last release (oneTBB's
+/// `OnMissFactor`).
 pub const MISS: u64 = 2;
 
-/// A bin with more items than this many times its blocks in use is large.
+/// A bin is large where its items are more than this many times its blocks in use (oneTBB's `TooLargeFactor`).
 pub const LARGE: u64 = 2;
 
-/// A bin without a get for more than this many times its threshold has waited long.
+/// A bin has waited long where its last get lies back more than this many times its threshold (oneTBB's
+/// `LongWaitFactor`).
 pub const WAIT: u64 = 16;
 
-/// A bin: blocks of one size that were freed and may be used again. All is 0 and empty at first.
+/// A bin: the blocks of one size that were freed and may be used again, its items. By `default` it has none, and all
+/// its numbers are 0.
 ///
-/// Times are ticks of the pool's clock, which counts each get and each put of a large block. Times and their
-/// differences wrap at 2^64.
+/// Times are ticks of the pool's clock, which counts the gets and puts of large blocks. A time, and the difference of
+/// two, is taken modulo 2^64: where calls overlap, an item's age can lie above the time of the next step, and then it
+/// counts as having lain for nearly 2^64 ticks.
 #[derive(Clone, Debug, Default, Drop, PartialEq, Eq)]
 pub struct CacheNumbers {
     /// How many blocks of this size are in use.
     pub used: u64,
-    /// The mean of how long items lay here before they were taken, or 0 where none was.
+    /// For how many ticks the items that were taken lay here, as a mean in which the latest weigh most. 0 where none
+    /// was taken.
     pub mean: u64,
-    /// How long an item may lie here before a cleanup releases it.
+    /// For how many ticks an item may lie here before a cleanup releases it.
     pub threshold: u64,
     /// The time of the last get.
     pub get: u64,
-    /// The age of the item released last, or 0 where a get has missed since.
+    /// The age of the item that was released last, or 0 where none was since the last get that missed.
     pub cleaned: u64,
-    /// The time at which each item was put, newest first.
-    pub ages: ArrayVec<u64, 64>,
+    /// The age of each item, which is the time of its put. The newest is first.
+    pub ages: ArrayVec<u64, MOST_ITEMS>,
 }
 
-/// What may happen to a bin.
+/// What happens to a bin.
 #[derive(Clone, Copy, Debug, PartialEq, Eq)]
 pub enum CacheOp {
-    /// A block of this size is wanted.
+    /// A block is asked for. The newest item is taken, and the mean becomes the half, rounded down, of itself and of
+    /// the time for which the item lay here; where the mean was 0 it becomes that time. With no item the get misses:
+    /// where one was released since the last miss, the threshold becomes twice the time since that item's age, or
+    /// 2^64 - 1 where that is less, and `cleaned` becomes 0. A block more is in use either way.
     Get,
-    /// A block of this size is freed.
+    /// A block is freed: it becomes the newest item, and a block less is in use. Where there are 64 items, the oldest
+    /// is released first.
     Put,
-    /// A get that missed got no block elsewhere either.
+    /// The caller of a get that missed found no block elsewhere either. A block less is in use.
     Undo,
-    /// The cleanup that comes every so many ticks.
+    /// The cleanup that is made once in a while. Where the last get lies back more than 16 times the threshold, the
+    /// threshold becomes 0. Where the items are then more than twice the blocks in use, it becomes the half, rounded
+    /// down, of itself and the mean. Then items are released from the oldest on, until one has lain here for no longer
+    /// than the threshold. Nothing changes where there is no item.
     Regular,
-    /// The first cleanup where memory is short.
+    /// The cleanup that is made where a block could not be had. The threshold becomes the half, rounded down, of itself
+    /// and the mean, and items are released as by a regular cleanup. Nothing changes where there is no item.
     Soft,
-    /// The last cleanup where memory is short.
+    /// The cleanup that is made where a block could still not be had. All items are released.
     Hard,
 }
 
-/// What an operation did.
+/// What an operation did to a bin.
 #[derive(Clone, Debug, Drop, PartialEq, Eq)]
 pub struct CacheStep {
-    /// The bin after it.
+    /// The bin after it. Where items were released, `cleaned` is the age of the newest of them.
     pub numbers: CacheNumbers,
     /// Whether the newest item was taken.
     pub taken: bool,
-    /// How many of the oldest items were released.
+    /// How many items were released. They were the oldest.
     pub released: u8,
 }
 
-/// The bin after `op` at `time`. An undo and a hard cleanup ask for no time. A cleanup of a bin without
-/// items changes nothing.
+/// What `op` at `time` does to a bin. The time counts for nothing at an undo and a hard cleanup.
 pub fn cache_step(numbers: &CacheNumbers, op: CacheOp, time: u64) -> CacheStep
     requires { CanStep op numbers.now.used }
-    ensures { result ≡ step_of numbers.now op time }
+    ensures step { result ≡ step_of numbers.now op time }
+
+    // What follows for the items.
+    ensures room { length result.numbers.ages.items ≤ 64 }
+    ensures order { LeavesInOrder result.taken numbers.now.ages.items result.numbers.ages.items
+        (put_by op time) result.released }
+    ensures soft { op ≡ CacheOp.Soft → length result.numbers.ages.items ≤ length numbers.now.ages.items }
+    ensures hard { op ≡ CacheOp.Hard → result.numbers.ages.items ≡ [] }
 {
     match op {
         CacheOp::Get => get(numbers, time),
@@ -97,14 +122,14 @@ fn get(numbers: &CacheNumbers, time: u64) -> CacheStep
 
 fn hit(numbers: &CacheNumbers, time: u64, newest: u64, older: &[u64]) -> CacheStep
     requires used { numbers.now.used < 2 ^ 64 - 1 }
-    requires fits { length older.now ≤ 64 }
+    requires room { length older.now ≤ 64 }
     ensures { result ≡ after_hit numbers.now time newest older.now }
 {
-    let span = time.wrapping_sub(newest);
+    let lay = time.wrapping_sub(newest);
     let mean = if numbers.mean == 0 {
-        span
+        lay
     } else {
-        numbers.mean.midpoint(span)
+        numbers.mean.midpoint(lay)
     };
     CacheStep {
         numbers: CacheNumbers {
@@ -124,30 +149,21 @@ fn miss(numbers: &CacheNumbers, time: u64) -> CacheStep
     requires empty { numbers.now.ages.items ≡ [] }
     ensures { result ≡ after_miss numbers.now time }
 {
-    let threshold = if numbers.cleaned == 0 {
-        numbers.threshold
-    } else {
-        MISS.saturating_mul(time.wrapping_sub(numbers.cleaned))
-    };
-    CacheStep {
-        numbers: CacheNumbers {
-            used: numbers.used + 1,
-            threshold,
-            get: time,
-            cleaned: 0,
-            ages: ArrayVec::new(),
-            ..*numbers
-        },
-        taken: false,
-        released: 0,
+    let mut step = unchanged(numbers);
+    step.numbers.used += 1;
+    step.numbers.get = time;
+    if numbers.cleaned != 0 {
+        step.numbers.threshold = MISS.saturating_mul(time.wrapping_sub(numbers.cleaned));
+        step.numbers.cleaned = 0;
     }
+    step
 }
 
 fn put(numbers: &CacheNumbers, time: u64) -> CacheStep
     requires { 0 < numbers.now.used }
     ensures { result ≡ after_put numbers.now time numbers.now.ages.items }
 {
-    let mut step = keep_newest(numbers, numbers.ages.len().min(MOST - 1));
+    let mut step = keep_newest(numbers, numbers.ages.len().min(MOST_ITEMS - 1));
     step.numbers.used -= 1;
     step.numbers.ages.insert(0, time);
     step
@@ -188,7 +204,6 @@ fn soft(numbers: &CacheNumbers, time: u64) -> CacheStep
     clean_up(numbers, numbers.threshold.midpoint(numbers.mean), time)
 }
 
-// Releases from the end what has lain here for longer than the threshold.
 fn clean_up(numbers: &CacheNumbers, threshold: u64, time: u64) -> CacheStep
     ensures { result ≡ after_cleanup numbers.now threshold time numbers.now.ages.items }
 {
@@ -198,7 +213,7 @@ fn clean_up(numbers: &CacheNumbers, threshold: u64, time: u64) -> CacheStep
     step
 }
 
-// How many of the last ages are above the threshold, from the end on.
+// How many items lay here for longer than the threshold, counted from the oldest on, up to the first that did not.
 fn count_stale(ages: &[u64], threshold: u64, time: u64) -> usize
     ensures value { result ≡ stale_count threshold time ages.now }
     ensures within { result ≤ length ages.now }
@@ -215,12 +230,12 @@ fn unchanged(numbers: &CacheNumbers) -> CacheStep
     keep_newest(numbers, numbers.ages.len())
 }
 
-// Releases all but the `kept` newest items.
-fn keep_newest(numbers: &CacheNumbers, kept: usize) -> CacheStep
-    requires { kept ≤ length numbers.now.ages.items }
-    ensures { result ≡ after_release numbers.now (length numbers.now.ages.items - kept) numbers.now.ages.items }
+// Releases all but the `count` newest items.
+fn keep_newest(numbers: &CacheNumbers, count: usize) -> CacheStep
+    requires { count ≤ length numbers.now.ages.items }
+    ensures { result ≡ after_release numbers.now (length numbers.now.ages.items - count) numbers.now.ages.items }
 {
-    let (kept, released) = numbers.ages.as_slice().split_at(kept);
+    let (kept, released) = numbers.ages.as_slice().split_at(count);
     CacheStep {
         numbers: CacheNumbers {
             cleaned: released.first().copied().unwrap_or(numbers.cleaned),
@@ -232,14 +247,11 @@ fn keep_newest(numbers: &CacheNumbers, kept: usize) -> CacheStep
     }
 }
 
-fn copied(ages: &[u64]) -> ArrayVec<u64, 64>
+fn copied(ages: &[u64]) -> ArrayVec<u64, MOST_ITEMS>
     requires { length ages.now ≤ 64 }
     ensures { result ≡ ages_of ages.now }
 {
     let mut copy = ArrayVec::new();
-    let _ = copy.try_extend_from_slice(ages);
+    copy.try_extend_from_slice(ages).unwrap();
     copy
 }
-
-#[cfg(test)]
-mod tests;
