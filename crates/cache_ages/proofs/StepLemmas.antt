@@ -1,0 +1,71 @@
+-- How the steps of a cache bin change its ages.
+use Rattle.std.proofs.Common.{◌≡◌, ◌≢◌, ◌+◌, ◌-◌, ◌<◌, ◌≤◌, ℕ, Bool, true, false, List, [], ◌∷◌, ◌++◌, length, take, nat_lt, ◌==◌, if◌then◌else◌, ap, sym, refl, arith}
+use Rattle.std.proofs.lemmas.List.Sums.{suffix_len-le-length}
+use Rattle.std.proofs.lemmas.List.{take_all}
+use Rattle.std.proofs.lemmas.Bool.Decides.{nat_tests}
+use Rattle.cache_ages.specs.CacheSteps.{span_between, stale_count, after_cleanup, after_regular, after_soft, regular_threshold, half_of_sum, step_of, after_get, after_put, after_put_in, after_put_over}
+use Rattle.cache_ages.specs.CacheLaws.{LeavesAllButOldest, LeavesInOrder, IsTakenAgain, GetTakesWhatWasPut, UndoRestoresUsed}
+use Rattle.cache_ages.specs.declared.CacheNumbers.{CacheNumbers}
+use Rattle.cache_ages.specs.declared.CacheStep.{CacheStep}
+use Rattle.cache_ages.specs.declared.CacheOp.TheVariants.{Get, Put, Undo}
+
+-- a cleanup releases no more than there is
+pub stale_count-le-length : (threshold time : ℕ) (ages : List ℕ) → stale_count threshold time ages ≤ length ages
+stale_count-le-length threshold time ages =
+    suffix_len-le-length (λ age. nat_lt threshold (span_between age time)) ages
+
+-- a cleanup releases the oldest
+pub cleanup_order : (numbers : CacheNumbers) (threshold time : ℕ) (ages : List ℕ)
+    → LeavesAllButOldest ages (after_cleanup numbers threshold time ages).numbers.ages.items []
+    (after_cleanup numbers threshold time ages).released
+cleanup_order numbers threshold time ages = record {
+  within = stale_count-le-length threshold time ages;
+  others = refl;
+}
+
+-- so does a regular one
+pub regular_order : (numbers : CacheNumbers) (time : ℕ) (ages : List ℕ) → numbers.ages.items ≡ ages
+    → LeavesInOrder (after_regular numbers time ages).taken ages (after_regular numbers time ages).numbers.ages.items []
+    (after_regular numbers time ages).released
+regular_order numbers time [] h = record { within = omega arith; others = h }
+regular_order numbers time (newest ∷ older) h =
+    cleanup_order numbers (regular_threshold numbers time (newest ∷ older)) time (newest ∷ older)
+
+-- so does a soft one
+pub soft_order : (numbers : CacheNumbers) (time : ℕ) (ages : List ℕ) → numbers.ages.items ≡ ages
+    → LeavesInOrder (after_soft numbers time ages).taken ages (after_soft numbers time ages).numbers.ages.items []
+    (after_soft numbers time ages).released
+soft_order numbers time [] h = record { within = omega arith; others = h }
+soft_order numbers time (newest ∷ older) h =
+    cleanup_order numbers (half_of_sum numbers.threshold numbers.mean) time (newest ∷ older)
+
+-- a Put of which it is known whether the bin is full
+choice_ages : (full : Bool) (numbers : CacheNumbers) (time : ℕ) (ages : List ℕ)
+    → (full ≡ false → take 63 ages ≡ ages)
+    → (if full then after_put_over numbers time ages else after_put_in numbers time ages).numbers.ages.items ≡ time ∷ take 63 ages
+choice_ages true numbers time ages h = refl
+choice_ages false numbers time ages h = ap (λ xs. time ∷ xs) (sym (h refl))
+
+-- a bin that is not full has room
+below_full : (n : ℕ) → n ≤ 64 → (n == 64) ≡ false → n ≤ 63
+below_full n room not_full = grind (arith, nat_tests)
+
+-- what a Put leaves of a bin
+pub put_ages : (numbers : CacheNumbers) (time : ℕ) (ages : List ℕ) → length ages ≤ 64
+    → (after_put numbers time ages).numbers.ages.items ≡ time ∷ take 63 ages
+put_ages numbers time ages room =
+    choice_ages (length ages == 64) numbers time ages
+    (λ not_full. take_all 63 ages (below_full (length ages) room not_full))
+
+-- what a Get makes of a bin with items
+pub get_taken : (numbers : CacheNumbers) (time newest : ℕ) (older ages : List ℕ) → ages ≡ newest ∷ older
+    → ((after_get numbers time ages).taken ≡ true) × ((after_get numbers time ages).numbers.ages.items ≡ older)
+get_taken numbers time newest older ages h = rw h (refl, refl)
+
+-- a Get after a Put takes what was put
+pub taken_again : GetTakesWhatWasPut
+taken_again numbers put get room =
+    let there = put_ages numbers put numbers.ages.items room in
+    let taken = get_taken (step_of numbers Put put).numbers get put (take 63 numbers.ages.items)
+    (step_of numbers Put put).numbers.ages.items there in
+    record { taken = taken.0; item = there; rest = taken.1 }
