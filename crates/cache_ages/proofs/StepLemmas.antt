@@ -1,13 +1,12 @@
 -- How the steps of a cache bin change its ages.
-use Rattle.std.proofs.Common.{◌≡◌, ◌≢◌, ◌+◌, ◌-◌, ◌<◌, ◌≤◌, ℕ, Bool, true, false, List, [], ◌∷◌, ◌++◌, length, take, nat_lt, ◌==◌, if◌then◌else◌, ap, sym, refl, arith}
+use Rattle.std.proofs.Common.{◌≡◌, ◌≤◌, ℕ, Bool, true, false, List, [], ◌∷◌, length, take, nat_lt, ◌==◌, if◌then◌else◌, ap, sym, refl, arith}
 use Rattle.std.proofs.lemmas.List.Sums.{suffix_len-le-length}
 use Rattle.std.proofs.lemmas.List.{take_all}
 use Rattle.std.proofs.lemmas.Bool.Decides.{nat_tests}
 use Rattle.cache_ages.specs.CacheSteps.{span_between, stale_count, after_cleanup, after_regular, after_soft, regular_threshold, half_of_sum, step_of, after_get, after_put, after_put_in, after_put_over}
-use Rattle.cache_ages.specs.CacheLaws.{LeavesAllButOldest, LeavesInOrder, IsTakenAgain, GetTakesWhatWasPut, UndoRestoresUsed}
+use Rattle.cache_ages.specs.CacheLaws.{LeavesAllButOldest, LeavesInOrder, GetTakesWhatWasPut}
 use Rattle.cache_ages.specs.declared.CacheNumbers.{CacheNumbers}
-use Rattle.cache_ages.specs.declared.CacheStep.{CacheStep}
-use Rattle.cache_ages.specs.declared.CacheOp.TheVariants.{Get, Put, Undo}
+use Rattle.cache_ages.specs.declared.CacheOp.TheVariants.{Put}
 
 -- a cleanup releases no more than there is
 pub stale_count-le-length : (threshold time : ℕ) (ages : List ℕ) → stale_count threshold time ages ≤ length ages
