@@ -15,8 +15,8 @@ stale_count-le-length threshold time ages =
 
 -- a cleanup releases the oldest
 pub cleanup_order : (numbers : CacheNumbers) (threshold time : ℕ) (ages : List ℕ)
-    → LeavesAllButOldest ages (after_cleanup numbers threshold time ages).numbers.ages.items []
-    (after_cleanup numbers threshold time ages).released
+    → let step = after_cleanup numbers threshold time ages in
+    LeavesAllButOldest ages step.numbers.ages.items [] step.released
 cleanup_order numbers threshold time ages = record {
   within = stale_count-le-length threshold time ages;
   others = refl;
@@ -24,16 +24,16 @@ cleanup_order numbers threshold time ages = record {
 
 -- so does a regular one
 pub regular_order : (numbers : CacheNumbers) (time : ℕ) (ages : List ℕ) → numbers.ages.items ≡ ages
-    → LeavesInOrder (after_regular numbers time ages).taken ages (after_regular numbers time ages).numbers.ages.items []
-    (after_regular numbers time ages).released
+    → let step = after_regular numbers time ages in
+    LeavesInOrder step.taken ages step.numbers.ages.items [] step.released
 regular_order numbers time [] h = record { within = omega arith; others = h }
 regular_order numbers time (newest ∷ older) h =
     cleanup_order numbers (regular_threshold numbers time (newest ∷ older)) time (newest ∷ older)
 
 -- so does a soft one
 pub soft_order : (numbers : CacheNumbers) (time : ℕ) (ages : List ℕ) → numbers.ages.items ≡ ages
-    → LeavesInOrder (after_soft numbers time ages).taken ages (after_soft numbers time ages).numbers.ages.items []
-    (after_soft numbers time ages).released
+    → let step = after_soft numbers time ages in
+    LeavesInOrder step.taken ages step.numbers.ages.items [] step.released
 soft_order numbers time [] h = record { within = omega arith; others = h }
 soft_order numbers time (newest ∷ older) h =
     cleanup_order numbers (half_of_sum numbers.threshold numbers.mean) time (newest ∷ older)
@@ -41,7 +41,8 @@ soft_order numbers time (newest ∷ older) h =
 -- a Put of which it is known whether the bin is full
 choice_ages : (full : Bool) (numbers : CacheNumbers) (time : ℕ) (ages : List ℕ)
     → (full ≡ false → take 63 ages ≡ ages)
-    → (if full then after_put_over numbers time ages else after_put_in numbers time ages).numbers.ages.items ≡ time ∷ take 63 ages
+    → let step = if full then after_put_over numbers time ages else after_put_in numbers time ages in
+    step.numbers.ages.items ≡ time ∷ take 63 ages
 choice_ages true numbers time ages h = refl
 choice_ages false numbers time ages h = ap (λ xs. time ∷ xs) (sym (h refl))
 
