@@ -10,6 +10,8 @@ ghost use Rattle.size_classes.specs.Classes.{first_class, IsFirstClass, class_si
 
 use std::marker::Model;
 
+pub mod request;
+
 /// How many classes there are.
 pub const CLASSES: usize = 26;
 
@@ -37,6 +39,20 @@ impl Model for Class {
     ghost invariant = { λ class. class.position < 26 };
 
     ghost inverse = { λ position. record { position = position } };
+}
+
+/// What a request for memory is served as.
+#[derive(Clone, Copy, Debug, PartialEq, Eq)]
+pub enum Served {
+    /// An object of this class.
+    Small(Class),
+
+    /// A block of so many granules of 8192 bytes, in which the object starts at a multiple of the
+    /// alignment, in bytes.
+    Large { granules: u64, alignment: u64 },
+
+    /// Nothing: an aligned request for no bytes, or with an alignment that is no power of two.
+    Bad,
 }
 
 impl Class {
