@@ -7,10 +7,10 @@ use Rattle.std.proofs.lemmas.Nat.{div-mul-add, div-add-mod'}
 use Rattle.std.proofs.lemmas.Bool.Decides.{nat_tests}
 use Rattle.std.proofs.lemmas.Bool.{cases_lt}
 use Rattle.size_classes.specs.Classes.{class_size, first_class, IsFirstClass}
-use Rattle.size_classes.specs.Served.{aligned_up, aligned_class, small_or, large_at, served_at, IfSmall}
-use Rattle.size_classes.specs.declared.Served.TheVariants.{Bad}
+use Rattle.size_classes.specs.Served.{aligned_up, aligned_class, granules_of, small_or, large_at, served_plain_at, served_at, IfSmall}
+use Rattle.size_classes.specs.declared.Served.TheVariants.{Small, Bad}
 use Rattle.size_classes.proofs.Below.{all_below, all_below-at}
-use Rattle.size_classes.proofs.Positions.{first_class-found}
+use Rattle.size_classes.proofs.Positions.{first_class-found, first_class-none}
 use Rattle.size_classes.proofs.Fitting.{first-past_doubled, class_size-whole, class_size-lines}
 use Rattle.size_classes.proofs.Powers.{is_power_of_two-is, power-positive, exponent-below}
 
@@ -49,7 +49,36 @@ pub aligned_class-block : (size alignment : ℕ) → (1024 < size) ⊎ (1024 < a
 unfolding aligned_class
 aligned_class-block size alignment large high = grind (arith, nat_tests)
 
+-- from 8129 bytes on there is no class
+pub aligned_class-past : (size alignment : ℕ) → 8128 < size → aligned_class size alignment ≡ None
+aligned_class-past size alignment large =
+    elim (cases_lt 64 alignment) [
+      | inl high ↦ aligned_class-block size alignment (inl (omega arith)) high
+      | inr line ↦ aligned_class-line size alignment (omega arith) line ∙ first_class-none size large
+    ]
+
+-- what the code's rows say
 pub ruleset aligned_rows = (aligned_class-rounded, aligned_class-line, aligned_class-block)
+
+-- a plain request with a class
+pub served_plain_at-small : (size class : ℕ) → first_class size ≡ Some class → served_plain_at size ≡ Small class
+unfolding served_plain_at
+served_plain_at-small size class found = ap (λ some. small_or some (large_at size 64)) found
+
+-- and one without
+pub served_plain_at-large : (size : ℕ) → 8128 < size → served_plain_at size ≡ large_at size 64
+unfolding served_plain_at
+served_plain_at-large size large = ap (λ none. small_or none (large_at size 64)) (first_class-none size large)
+
+-- the granules have room for the bytes
+pub granules_of-room : (bytes : ℕ) → bytes ≤ 8192 * granules_of bytes
+unfolding granules_of
+granules_of-room bytes = omega arith
+
+-- and no granule to spare
+pub granules_of-tight : (bytes : ℕ) → 8192 * granules_of bytes < bytes + 8192
+unfolding granules_of
+granules_of-tight bytes = omega arith
 
 -- a fact of the class where there is one
 pub small_or-if : (found : Option ℕ) (size alignment : ℕ) (fact : ℕ → Type 0) → ((class : ℕ) → found ≡ Some class → fact class) → IfSmall (small_or found (large_at size alignment)) fact

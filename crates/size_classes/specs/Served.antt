@@ -18,22 +18,22 @@ abbrev pub small_or : Option ℕ → Served → Served
 small_or (Some class) otherwise = Small class
 small_or None otherwise = otherwise
 
--- a block with the object at a multiple of the alignment, and room for a head before it
+-- a block that has room for the object at a multiple of the alignment, with a head before it
 abbrev pub large_at : ℕ → ℕ → Served
 large_at size alignment = Large (granules_of (size + alignment)) alignment
 
--- a plain request: the class of the size, else a block
+-- a plain request: the class of the size, and from 8129 bytes on a block
 unfoldable pub served_plain_at : ℕ → Served
 served_plain_at size = small_or (first_class size) (large_at size 64)
 
--- the class of an aligned request: where both numbers are at most 1024 that of the size rounded up, and else, up to alignment 64, that of the size
+-- the class of an aligned request: that of the size rounded up, where both are at most 1024; else, up to alignment 64, that of the size
 unfoldable pub aligned_class : ℕ → ℕ → Option ℕ
 aligned_class size alignment =
     if nat_le size 1024 && nat_le alignment 1024 then first_class (aligned_up size alignment)
     else if nat_le alignment 64 then first_class size
     else None
 
--- an aligned request: bad for no bytes or an alignment that is no power of two, else its class, else a block
+-- an aligned request: bad for no bytes or an alignment that is no power of two, else its class where there is one, else a block
 unfoldable pub served_at : ℕ → ℕ → Served
 served_at size alignment =
     if size == 0 || not (is_power_of_two alignment) then Bad

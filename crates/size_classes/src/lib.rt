@@ -1,4 +1,5 @@
-//! The classes of sizes of small objects, and the class of a size.
+//! The classes of sizes of small objects, the class of a size, and what a request for memory is served
+//! as.
 //!
 //! An object that is not large lies in a slab whose objects all have one size, the slab's class. The
 //! classes and how the class of a size is found from its bits are modelled on oneTBB's
@@ -130,8 +131,8 @@ fn quarters_position(size: u64) -> u8
     (4 * u64::from(order) + quarters - 23) as u8
 }
 
-/// The position for a size from 1025 to 8128. These classes are as large as so many objects in one
-/// slab allow.
+/// The position for a size from 1025 to 8128. These classes are the largest multiples of 64 of which a
+/// slab has room for 9, 6, 4, 3 and 2.
 #[tactic(auto, using(crate::proofs::Positions::first_at), unfolding(crate::specs::Classes::class_size))]
 fn fitting_position(size: u64) -> u8
     requires above { 1024 < size }

@@ -1,8 +1,9 @@
 //! What a request for memory is served as.
 //!
-//! The rows are those of oneTBB's `src/tbbmalloc/frontend.cpp` (`internalPoolMalloc` and
-//! `allocateAligned`), but that a large alignment always takes a block here, and never a small object
-//! with room around it.
+//! The choice is that of oneTBB's `src/tbbmalloc/frontend.cpp` (`internalPoolMalloc`,
+//! `allocateAligned` and the tests of `pool_aligned_malloc`). This project's own are the granules,
+//! and that a request which no class serves at its alignment takes a block: oneTBB may also take a
+//! larger small object and start inside it.
 
 ghost use Rattle.std.specs.Prelude.{◌≡◌, ◌≢◌, ℕ, ◌+◌, ◌-◌, ◌*◌, ◌%◌, ◌<◌, ◌≤◌, ◌↔◌, ◌⊎◌, IsTrue};
 ghost use Rattle.std.specs.Int.{IsPowerOfTwo};
@@ -17,19 +18,26 @@ const GRANULE_BYTES: u128 = 8192;
 /// The least alignment of a large object, and the largest for which a class above 1024 will do.
 const LINE_BYTES: u64 = 64;
 
-/// What a plain request for `size` bytes is served as. It is never `Bad`.
+/// What a request for `size` bytes with no alignment is served as: an object of the size's class, and
+/// from 8129 bytes on a block whose object has a head of 64 bytes or more before it. A request for no
+/// bytes takes the smallest class. None is `Bad`.
 pub fn served_plain(size: u64) -> Served
     ensures exact { result ≡ served_plain_at size }
     ensures never_bad { result ≢ Served.Bad }
     ensures fits { IfSmall result (λ class. size ≤ class_size class) }
 
-    // Less than a fifth of an object is lost.
+    // Less than a fifth of the object is lost.
     ensures tight { 64 < size → size ≤ 1024 → IfSmall result (λ class. 4 * (class_size class - size) < size) }
 {
     small_or_large(class_of(size), size, LINE_BYTES)
 }
 
-/// What a request for `size` bytes at a multiple of `alignment` is served as.
+/// What a request for `size` bytes at a multiple of `alignment` is served as. It is `Bad` exactly where
+/// `size` is 0, whatever the alignment, or `alignment` is no power of two.
+///
+/// Where both are at most 1024, the size rounded up to the alignment has a class that is a multiple of
+/// the alignment. Up to alignment 64 each class for more than 1024 bytes is such a multiple. Any other
+/// request takes a block.
 pub fn served(size: u64, alignment: u64) -> Served
     ensures exact { result ≡ served_at size alignment }
     ensures bad { (result ≡ Served.Bad) ↔ ((size ≡ 0) ⊎ ¬ IsPowerOfTwo alignment) }
@@ -90,6 +98,7 @@ fn small_or_large(class: Option<Class>, size: u64, alignment: u64) -> Served
 
 /// A block for an object of `size` bytes at a multiple of `alignment`. The bytes are added in 128
 /// bits, since they may be `2^64` and more.
+#[tactic(auto, unfolding(crate::specs::Served::granules_of))]
 fn large(size: u64, alignment: u64) -> Served
     ensures { result ≡ large_at size alignment }
 {
