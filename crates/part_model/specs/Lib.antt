@@ -1,0 +1,5 @@
+pub mod Lawful
+pub mod Holding
+pub mod Apply
+pub mod Runs
+pub mod Totals
