@@ -1,5 +1,5 @@
 -- Counts of bytes: of a list of runs, and after a part.
-use Rattle.std.proofs.Common.{◌≡◌, ℕ, ◌+◌, ◌-◌, ◌<◌, ◌≤◌, ◌^◌, ◌==◌, ◌&&◌, ◌||◌, Bool, true, false, List, [], ◌∷◌, ◌++◌, Some, None, All, length, get_or, take, nat_le, nat_lt, refl, sym, ◌∙◌, ap, arith, zero, suc}
+use Rattle.std.proofs.Common.{◌≡◌, ℕ, ◌+◌, ◌<◌, ◌≤◌, ◌^◌, ◌==◌, ◌&&◌, ◌||◌, Bool, true, false, List, [], ◌∷◌, ◌++◌, Some, None, All, length, get_or, take, nat_le, nat_lt, refl, ◌∙◌, ap, arith}
 use Rattle.std.specs.Prelude.{if◌then◌else◌, sum_by}
 use Rattle.std.specs.declared.option.Option.{Option}
 use Rattle.std.proofs.lemmas.Bool.Decides.{nat_tests}
@@ -12,12 +12,11 @@ use Rattle.part_model.specs.declared.holders.Holder.{Holder}
 use Rattle.part_model.specs.declared.holders.Kind.{Kind}
 use Rattle.part_model.specs.declared.holders.Kind.TheVariants.{Waste as OfWaste}
 use Rattle.part_model.specs.declared.holders.Range.{Range}
-use Rattle.part_model.specs.declared.holders.Part.{Part}
 use Rattle.part_model.specs.declared.runs.Run.{Run}
-use Rattle.part_model.specs.Holding.{Holding, lies_in, same_region, after_part, IsWhole}
+use Rattle.part_model.specs.Holding.{lies_in, IsWhole}
 use Rattle.part_model.specs.Runs.{holder_at, cover, AreRuns, IsSound, IsOnce, has_region_at, run_bytes}
-use Rattle.part_model.specs.Totals.{sum_below, sum_regions, place_at, region_bytes, is_at, has_holder, bytes_at, bytes_held, is_live, regions_held}
-use Rattle.part_model.proofs.Sums.{sum_below-same, sum_below-add, sum_below-none, sum_below-one, sum_below-span, sum_regions-same, sum_regions-add, sum_regions-none, sum_regions-one}
+use Rattle.part_model.specs.Totals.{sum_below, sum_regions, place_at, region_bytes, is_at, has_holder, is_live, regions_held}
+use Rattle.part_model.proofs.Sums.{sum_below-same, sum_below-add, sum_below-none, sum_below-span, sum_regions-same, sum_regions-add, sum_regions-none, sum_regions-one}
 
 -- the numbers of a pool and a region are those of the range
 abbrev pub is_region : ℕ → ℕ → Range → Bool

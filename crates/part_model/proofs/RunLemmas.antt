@@ -1,9 +1,8 @@
 -- Lists of runs: what they say of a byte, as pieces are added and taken out.
-use Rattle.std.proofs.Common.{◌≡◌, ℕ, ◌+◌, ◌-◌, ◌<◌, ◌≤◌, ◌⊎◌, inl, inr, List, [], ◌∷◌, ◌++◌, Some, None, Bool, true, false, ◌&&◌, ◌||◌, not, ◌==◌, eq-eqb, refl, sym, ◌∙◌, ap, subst, arith, take, drop, get_or, length, nat_le, nat_lt}
+use Rattle.std.proofs.Common.{◌≡◌, ℕ, ◌+◌, ◌<◌, ◌≤◌, List, [], ◌∷◌, ◌++◌, Some, None, Bool, true, false, ◌&&◌, not, ◌==◌, eq-eqb, refl, sym, ◌∙◌, ap, arith, take, drop, get_or, length, nat_le, nat_lt}
 use Rattle.std.specs.Prelude.{if◌then◌else◌}
-use Rattle.std.proofs.lemmas.List.{take_more, take_all, drop_more}
-use Rattle.std.proofs.lemmas.Bool.Decides.{nat_tests}
-use Rattle.std.proofs.lemmas.Bool.{and_parts, and_from, eqb-true, leb-true, ltb-true, le-leb, lt-ltb, cases_Bool}
+use Rattle.std.proofs.lemmas.List.{take_more, drop_more}
+use Rattle.std.proofs.lemmas.Bool.{and_parts, and_from, eqb-true, leb-true, ltb-true, le-leb, lt-ltb}
 use Rattle.std.specs.declared.option.Option.{Option}
 use Rattle.pool_types.specs.declared.values.Place.{Place}
 use Rattle.part_model.specs.declared.holders.Holder.{Holder}
@@ -11,7 +10,7 @@ use Rattle.part_model.specs.declared.holders.Range.{Range}
 use Rattle.part_model.specs.declared.holders.Part.{Part}
 use Rattle.part_model.specs.declared.runs.Run.{Run}
 use Rattle.part_model.specs.Holding.{Holding, lies_in, same_region, after_part, after_parts}
-use Rattle.part_model.specs.Runs.{holder_at, at_piece, first_of, count_of, cover, is_before, is_behind, IsOnce, IsAlike}
+use Rattle.part_model.specs.Runs.{holder_at, at_piece, first_of, count_of, cover, is_before, is_behind, IsOnce}
 
 -- the holders of two lists joined
 pub holder_at-append : (xs ys : List Run) (byte : Place) → holder_at (xs ++ ys) byte ≡ first_of (holder_at xs byte) (holder_at ys byte)

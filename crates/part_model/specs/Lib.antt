@@ -3,3 +3,4 @@ pub mod Holding
 pub mod Apply
 pub mod Runs
 pub mod Totals
+pub mod Laws

@@ -1,14 +1,11 @@
 -- What a list of runs says of the bytes. This is how a partition is stored, and no rule speaks of it.
-use Rattle.std.specs.Prelude.{◌≡◌, ◌==◌, ◌||◌, false, sum_by, ℕ, ◌+◌, ◌<◌, ◌≤◌, ◌^◌, ◌&&◌, not, nat_le, nat_lt, Bool, true, if◌then◌else◌, List, [], ◌∷◌, All, Some, None, Result, Ok, Err}
+use Rattle.std.specs.Prelude.{◌≡◌, ◌==◌, ◌||◌, false, sum_by, ℕ, ◌+◌, ◌<◌, ◌≤◌, ◌^◌, ◌&&◌, not, nat_le, nat_lt, Bool, true, if◌then◌else◌, List, [], ◌∷◌, All, Some, None}
 use Rattle.std.specs.declared.option.Option.{Option}
 use Rattle.pool_types.specs.declared.values.Place.{Place}
 use Rattle.part_model.specs.declared.holders.Holder.{Holder}
 use Rattle.part_model.specs.declared.holders.Range.{Range}
-use Rattle.part_model.specs.declared.holders.Part.{Part}
-use Rattle.part_model.specs.declared.partition.ApplyError.{ApplyError}
-use Rattle.part_model.specs.declared.partition.ApplyError.TheVariants.{Unlawful, NoMemory}
 use Rattle.part_model.specs.declared.runs.Run.{Run}
-use Rattle.part_model.specs.Holding.{Holding, same_region, lies_in, IsWhole, CanMoveAll, IsRefusedAt}
+use Rattle.part_model.specs.Holding.{Holding, same_region, lies_in, IsWhole}
 
 -- the holder of the first run that has the byte
 abbrev pub holder_at : List Run → Holding
@@ -69,12 +66,6 @@ pub record IsFirstElsewhere (runs : List Run) (range : Range) (wanted : Option H
   pub inside : lies_in byte range ≡ true
   pub elsewhere : holder_at runs byte ≡ wanted → ⊥
   pub first : (earlier : Place) → lies_in earlier range ≡ true → earlier.offset < byte.offset → holder_at runs earlier ≡ wanted
-
--- whether the parts can be moved
-abbrev pub Judges : ℕ → List Part → Holding → Result Unit ApplyError → Type 0
-Judges seat parts held (Ok done) = CanMoveAll seat held parts
-Judges seat parts held (Err NoMemory) = ⊥
-Judges seat parts held (Err (Unlawful byte there wanted)) = IsRefusedAt seat held parts byte there wanted
 
 -- whether a run is of the region
 abbrev pub has_region_at : List Run → ℕ → ℕ → Bool

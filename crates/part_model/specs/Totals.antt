@@ -1,5 +1,5 @@
 -- How many bytes each kind of holder has. All is counted byte by byte, over every number that a place can have.
-use Rattle.std.specs.Prelude.{◌≡◌, ℕ, ◌+◌, ◌<◌, ◌≤◌, ◌^◌, Bool, true, false, nat_lt, if◌then◌else◌, is_some, Some, None}
+use Rattle.std.specs.Prelude.{ℕ, ◌+◌, ◌^◌, Bool, true, false, nat_lt, if◌then◌else◌, Some, None}
 use Rattle.std.specs.declared.option.Option.{Option}
 use Prim.Native.Nat.{zero, suc}
 use Rattle.pool_types.specs.declared.values.Place.{Place}

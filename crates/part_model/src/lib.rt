@@ -5,6 +5,7 @@
 #![tactic(auto)]
 
 pub mod holders;
+pub mod laws;
 pub mod partition;
 mod runs;
 pub mod totals;

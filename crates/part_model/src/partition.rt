@@ -3,7 +3,7 @@ ghost use Rattle.std.specs.Prelude.{◌≡◌, ◌≤◌, ◌-◌, ◌^◌, None
 ghost use Rattle.pool_types.specs.declared.values.Place.{Place};
 ghost use Rattle.part_model.specs.Holding.{AreApart, AreWhole, IsWhole, CanMove, IsFirstRefused, after_parts};
 ghost use Rattle.part_model.specs.Apply.{Answers};
-ghost use Rattle.part_model.specs.Runs.{holder_at, IsSound, Judges};
+ghost use Rattle.part_model.specs.Runs.{holder_at, IsSound};
 ghost use Rattle.part_model.specs.Totals.{bytes_held, totals_of};
 
 use crate::holders::{Holder, Move, Part, is_lawful};
@@ -63,7 +63,7 @@ fn refused_at(runs: &[Run], seat: u8, part: &Part) -> Option<Place>
 fn judged(runs: &[Run], seat: u8, parts: &[Part]) -> Result<(), ApplyError>
     requires sound { All IsSound runs.now }
     requires whole { AreWhole parts.now }
-    ensures { Judges seat parts.now (holder_at runs.now) result }
+    ensures { Answers seat parts.now (holder_at runs.now) result }
 {
     for part in parts {
         if let Some(byte) = refused_at(runs, seat, part) {

@@ -1,5 +1,5 @@
-use Rattle.std.proofs.Common.{◌∙◌, ◌+◌, ap, arith}
-use Rattle.part_model.specs.Runs.{holder_at, at_piece, first_of, count_of}
+use Rattle.std.proofs.Common.{ap, arith}
+use Rattle.part_model.specs.Runs.{holder_at, count_of}
 use Rattle.part_model.proofs.RunLemmas.{pieces_join, covers_join}
 use Rattle.part_model.proofs.runs.keep_outside.Goals as goal
 

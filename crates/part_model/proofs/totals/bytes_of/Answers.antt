@@ -1,7 +1,6 @@
-use Rattle.std.proofs.Common.{◌≤◌, ◌+◌, Some, sym, ap, ◌∙◌, get_or, arith}
+use Rattle.std.proofs.Common.{Some, sym, ap, ◌∙◌, arith}
 use Rattle.std.proofs.lemmas.List.{take_all}
 use Rattle.std.specs.Prelude.{if◌then◌else◌, sum_by}
-use Rattle.part_model.specs.Runs.{run_bytes}
 use Rattle.part_model.specs.Totals.{is_at}
 use Rattle.part_model.proofs.Counts.{bytes-runs, is_at-none, kind_fits}
 use Rattle.part_model.proofs.totals.bytes_of.Goals as goal

@@ -1,7 +1,6 @@
-use Rattle.std.proofs.Common.{Bool, ℕ, ◌≡◌, ◌+◌, sym, ap, ◌∙◌, arith}
+use Rattle.std.proofs.Common.{Bool, ℕ, sym, ap, ◌∙◌, arith}
 use Rattle.std.specs.Prelude.{if◌then◌else◌}
 use Rattle.std.proofs.lemmas.List.{take_all}
-use Rattle.part_model.specs.Runs.{has_region_at}
 use Rattle.part_model.proofs.Counts.{regions_of, regions_of-none, regions_more, regions_held-runs}
 use Rattle.part_model.proofs.totals.region_count.Goals as goal
 use Rattle.part_model.proofs.totals.region_count.Goals.{then-not-has_region, else-not-has_region}

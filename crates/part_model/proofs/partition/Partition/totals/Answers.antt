@@ -1,5 +1,5 @@
-use Rattle.std.proofs.Common.{refl, sym, ap, ◌∙◌, ◌≤◌, ◌-◌, ◌^◌, subst}
-use Rattle.part_model.specs.Runs.{run_bytes, holder_at}
+use Rattle.std.proofs.Common.{refl, sym, ◌≤◌, ◌-◌, ◌^◌, subst}
+use Rattle.part_model.specs.Runs.{holder_at}
 use Rattle.part_model.specs.Totals.{has_holder, bytes_held}
 use Rattle.part_model.proofs.Counts.{bytes-runs}
 use Rattle.part_model.proofs.partition.Partition.totals.Goals as goal
