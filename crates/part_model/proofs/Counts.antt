@@ -1,5 +1,5 @@
 -- Counts of bytes: of a list of runs, and after a part.
-use Rattle.std.proofs.Common.{◌≡◌, ℕ, ◌+◌, ◌<◌, ◌≤◌, ◌^◌, ◌==◌, ◌&&◌, ◌||◌, Bool, true, false, List, [], ◌∷◌, ◌++◌, Some, None, All, length, get_or, take, nat_le, nat_lt, refl, ◌∙◌, ap, arith}
+use Rattle.std.proofs.Common.{◌≡◌, ℕ, ◌+◌, ◌-◌, ◌<◌, ◌≤◌, ◌^◌, ◌==◌, ◌&&◌, ◌||◌, Bool, true, false, List, [], ◌∷◌, ◌++◌, Some, None, All, length, get_or, take, nat_le, nat_lt, refl, ◌∙◌, ap, arith}
 use Rattle.std.specs.Prelude.{if◌then◌else◌, sum_by}
 use Rattle.std.specs.declared.option.Option.{Option}
 use Rattle.std.proofs.lemmas.Bool.Decides.{nat_tests}
@@ -11,16 +11,12 @@ use Rattle.pool_types.specs.declared.values.Place.{Place}
 use Rattle.part_model.specs.declared.holders.Holder.{Holder}
 use Rattle.part_model.specs.declared.holders.Kind.{Kind}
 use Rattle.part_model.specs.declared.holders.Kind.TheVariants.{Waste as OfWaste}
-use Rattle.part_model.specs.declared.holders.Range.{Range}
+use Rattle.part_model.specs.declared.moves.Range.{Range}
 use Rattle.part_model.specs.declared.runs.Run.{Run}
 use Rattle.part_model.specs.Holding.{lies_in, IsWhole}
 use Rattle.part_model.specs.Runs.{holder_at, cover, AreRuns, IsSound, IsOnce, has_region_at, run_bytes}
-use Rattle.part_model.specs.Totals.{sum_below, sum_regions, place_at, region_bytes, is_at, has_holder, is_live, regions_held}
+use Rattle.part_model.specs.Totals.{is_region, bytes_held, sum_below, sum_regions, place_at, region_bytes, is_at, has_holder, is_live, regions_held}
 use Rattle.part_model.proofs.Sums.{sum_below-same, sum_below-add, sum_below-none, sum_below-span, sum_regions-same, sum_regions-add, sum_regions-none, sum_regions-one}
-
--- the numbers of a pool and a region are those of the range
-abbrev pub is_region : ℕ → ℕ → Range → Bool
-is_region pool region range = (pool == range.place.pool) && (region == range.place.region)
 
 -- the bytes of a range in a region
 pub span_bytes : (pool region : ℕ) (range : Range) (passes : Bool) → IsWhole range →
@@ -185,3 +181,11 @@ kind_fits kind runs i d below at =
 -- no run, no region
 pub regions_of-none : regions_of [] ≡ 0
 regions_of-none = sum_regions-none (λ pool region. 0) (λ pool region. refl)
+
+-- where one more run's bytes don't fit, the whole doesn't
+pub too_many : (runs : List Run) (i : ℕ) (d : Run) (bytes : ℕ) → AreRuns runs → i < length runs → bytes ≡ run_bytes (take i runs) →
+    (bytes + (get_or runs i d).range.bytes < 2 ^ 64 → ⊥) → bytes_held (holder_at runs) ≤ 2 ^ 64 - 1 → ⊥
+too_many runs i d bytes are below so_far over few =
+    let all = bytes-runs has_holder refl runs are in
+    let more = sum_by_more_le (λ (run : Run). run.range.bytes) runs i d below in
+    over (omega (arith, all, more, so_far, few))

@@ -6,8 +6,8 @@ use Rattle.std.proofs.lemmas.Bool.{and_parts, and_from, eqb-true, leb-true, ltb-
 use Rattle.std.specs.declared.option.Option.{Option}
 use Rattle.pool_types.specs.declared.values.Place.{Place}
 use Rattle.part_model.specs.declared.holders.Holder.{Holder}
-use Rattle.part_model.specs.declared.holders.Range.{Range}
-use Rattle.part_model.specs.declared.holders.Part.{Part}
+use Rattle.part_model.specs.declared.moves.Range.{Range}
+use Rattle.part_model.specs.declared.moves.Part.{Part}
 use Rattle.part_model.specs.declared.runs.Run.{Run}
 use Rattle.part_model.specs.Holding.{Holding, lies_in, same_region, after_part, after_parts}
 use Rattle.part_model.specs.Runs.{holder_at, at_piece, first_of, count_of, cover, is_before, is_behind, IsOnce}

@@ -1,6 +1,6 @@
 -- What a move answers.
 use Rattle.std.specs.Prelude.{ℕ, List, Result, Ok, Err}
-use Rattle.part_model.specs.declared.holders.Part.{Part}
+use Rattle.part_model.specs.declared.moves.Part.{Part}
 use Rattle.part_model.specs.declared.partition.ApplyError.{ApplyError}
 use Rattle.part_model.specs.declared.partition.ApplyError.TheVariants.{Unlawful, NoMemory}
 use Rattle.part_model.specs.Holding.{Holding, CanMoveAll, IsRefusedAt}

@@ -1,10 +1,11 @@
 -- What a list of runs says of the bytes. This is how a partition is stored, and no rule speaks of it.
-use Rattle.std.specs.Prelude.{◌≡◌, ◌==◌, ◌||◌, false, sum_by, ℕ, ◌+◌, ◌<◌, ◌≤◌, ◌^◌, ◌&&◌, not, nat_le, nat_lt, Bool, true, if◌then◌else◌, List, [], ◌∷◌, All, Some, None}
+use Rattle.std.specs.Prelude.{◌≡◌, ◌||◌, false, sum_by, ℕ, ◌+◌, ◌<◌, ◌≤◌, ◌^◌, ◌&&◌, not, nat_le, nat_lt, Bool, true, if◌then◌else◌, List, [], ◌∷◌, All, Some, None}
 use Rattle.std.specs.declared.option.Option.{Option}
 use Rattle.pool_types.specs.declared.values.Place.{Place}
 use Rattle.part_model.specs.declared.holders.Holder.{Holder}
-use Rattle.part_model.specs.declared.holders.Range.{Range}
+use Rattle.part_model.specs.declared.moves.Range.{Range}
 use Rattle.part_model.specs.declared.runs.Run.{Run}
+use Rattle.part_model.specs.Totals.{is_region}
 use Rattle.part_model.specs.Holding.{Holding, same_region, lies_in, IsWhole}
 
 -- the holder of the first run that has the byte
@@ -70,7 +71,7 @@ pub record IsFirstElsewhere (runs : List Run) (range : Range) (wanted : Option H
 -- whether a run is of the region
 abbrev pub has_region_at : List Run → ℕ → ℕ → Bool
 has_region_at [] pool region = false
-has_region_at (run ∷ runs) pool region = ((pool == run.range.place.pool) && (region == run.range.place.region)) || has_region_at runs pool region
+has_region_at (run ∷ runs) pool region = is_region pool region run.range || has_region_at runs pool region
 
 -- the bytes of all runs
 abbrev pub run_bytes : List Run → ℕ

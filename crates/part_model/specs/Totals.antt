@@ -1,5 +1,5 @@
 -- How many bytes each kind of holder has. All is counted byte by byte, over every number that a place can have.
-use Rattle.std.specs.Prelude.{ℕ, ◌+◌, ◌^◌, Bool, true, false, nat_lt, if◌then◌else◌, Some, None}
+use Rattle.std.specs.Prelude.{◌==◌, ◌&&◌, ℕ, ◌+◌, ◌^◌, Bool, true, false, nat_lt, if◌then◌else◌, Some, None}
 use Rattle.std.specs.declared.option.Option.{Option}
 use Prim.Native.Nat.{zero, suc}
 use Rattle.pool_types.specs.declared.values.Place.{Place}
@@ -7,6 +7,7 @@ use Rattle.part_model.specs.declared.holders.Holder.{Holder}
 use Rattle.part_model.specs.declared.holders.Holder.TheVariants.{Waste, Head, Rest, Private, Public, Object, LargeHead, SlabCache, Cached, Bin, Queue, Hand}
 use Rattle.part_model.specs.declared.holders.Kind.{Kind}
 use Rattle.part_model.specs.declared.holders.Kind.TheVariants.{Waste as OfWaste, Head as OfHead, Rest as OfRest, Private as OfPrivate, Public as OfPublic, Object as OfObject, LargeHead as OfLargeHead, SlabCache as OfSlabCache, Cached as OfCached, Bin as OfBin, Queue as OfQueue, Hand as OfHand}
+use Rattle.part_model.specs.declared.moves.Range.{Range}
 use Rattle.part_model.specs.declared.totals.Totals.{Totals}
 use Rattle.part_model.specs.Holding.{Holding}
 
@@ -35,6 +36,10 @@ has_holder (Some holder) = true
 unfoldable pub sum_below : (ℕ → ℕ) → ℕ → ℕ
 sum_below f zero = 0
 sum_below f (suc n) = sum_below f n + f n
+
+-- the numbers are those of the range's region
+abbrev pub is_region : ℕ → ℕ → Range → Bool
+is_region pool region range = (pool == range.place.pool) && (region == range.place.region)
 
 -- a place by its numbers
 abbrev pub place_at : ℕ → ℕ → ℕ → Place

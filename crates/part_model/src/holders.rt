@@ -1,10 +1,9 @@
-//! Holders of bytes, and moves of bytes from one holder to another.
+//! Holders of bytes, and the pairs of them between which bytes may go.
 ghost use Rattle.std.specs.Prelude.{◌≡◌, Some};
 ghost use Rattle.part_model.specs.Lawful.{is_lawful_pair};
 ghost use Rattle.part_model.specs.Totals.{is_at};
 
-use arrayvec::ArrayVec;
-use pool_types::{Grant, Place};
+use pool_types::Grant;
 
 /// Who has a byte of a pool. This project's own; what oneTBB's tbbmalloc does with such bytes stands behind each.
 #[derive(Clone, Copy, Debug, PartialEq, Eq)]
@@ -50,28 +49,6 @@ pub enum Kind {
     Bin,
     Queue,
     Hand,
-}
-
-/// Bytes in a row: the place of the first, and how many.
-#[derive(Clone, Copy, Debug, Default, PartialEq, Eq)]
-pub struct Range {
-    pub place: Place,
-    pub bytes: u64,
-}
-
-/// Bytes that go from one holder to another. None stands for a region that isn't yet, or is no longer, in the pool.
-#[derive(Clone, Copy, Debug, Default, PartialEq, Eq)]
-pub struct Part {
-    pub range: Range,
-    pub from: Option<Holder>,
-    pub to: Option<Holder>,
-}
-
-/// What one step of a seat moves.
-#[derive(Debug, Drop)]
-pub struct Move {
-    pub seat: u8,
-    pub parts: ArrayVec<Part, 4>,
 }
 
 impl Holder {

@@ -1,5 +1,5 @@
 //! Laws of moves and of totals. Each is what a function with an empty body ensures.
-ghost use Rattle.part_model.specs.Laws.{OneHolder, ApartCommute, TotalsFollow, TotalsSum};
+ghost use Rattle.part_model.specs.Laws.{OneHolder, ApartCommute, TotalsFollow, LiveFollow, TotalsSum};
 
 /// A lawful move keeps exactly one holder a byte: a byte of the pool has one afterwards, but where the move takes it out
 /// of the pool, and a byte that wasn't in the pool has one exactly where the move brings it in.
@@ -18,6 +18,13 @@ pub fn moves_commute()
 pub fn totals_follow()
     ensures { TotalsFollow }
 {}
+
+/// The live regions follow a lawful move: each has the bytes that it had, without those that the move takes out of the
+/// pool and with those that it brings in, and their number follows.
+pub fn regions_follow()
+    ensures { LiveFollow }
+{
+}
 
 /// The bytes at all kinds of holders sum to the bytes of the live regions.
 pub fn totals_sum()

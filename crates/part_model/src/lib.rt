@@ -6,10 +6,12 @@
 
 pub mod holders;
 pub mod laws;
+pub mod moves;
 pub mod partition;
 mod runs;
 pub mod totals;
 
-pub use holders::{Holder, Kind, Move, Part, Range};
+pub use holders::{Holder, Kind};
+pub use moves::{Move, Part, Range};
 pub use partition::{ApplyError, Partition};
 pub use totals::Totals;

@@ -1,14 +1,15 @@
 //! The partition of a pool's bytes among their holders.
-ghost use Rattle.std.specs.Prelude.{◌≡◌, ◌≤◌, ◌-◌, ◌^◌, None, MatchOption, OnErr, OnOk, All};
+ghost use Rattle.std.specs.Prelude.{◌↔◌, IsTrue, ◌≡◌, ◌≤◌, ◌-◌, ◌^◌, None, MatchOption, OnErr, OnOk, All};
 ghost use Rattle.pool_types.specs.declared.values.Place.{Place};
 ghost use Rattle.part_model.specs.Holding.{AreApart, AreWhole, IsWhole, CanMove, IsFirstRefused, after_parts};
 ghost use Rattle.part_model.specs.Apply.{Answers};
 ghost use Rattle.part_model.specs.Runs.{holder_at, IsSound};
 ghost use Rattle.part_model.specs.Totals.{bytes_held, totals_of};
 
-use crate::holders::{Holder, Move, Part, is_lawful};
+use crate::holders::{Holder, is_lawful};
+use crate::moves::{Move, Part};
 use crate::runs::{Run, first_elsewhere, held_at, moved_all};
-use crate::totals::{Totals, counted};
+use crate::totals::{Totals, are_countable, counted};
 use pool_types::Place;
 use std::alloc::Global;
 use std::marker::Model;
@@ -35,7 +36,7 @@ pub struct Partition {
 }
 
 impl Model for Partition {
-    ghost use Rattle.std.specs.Prelude.{List};
+    ghost use Rattle.std.specs.Prelude.{◌↔◌, IsTrue, List};
     ghost use Rattle.part_model.specs.declared.runs.Run.{Run};
     ghost use Rattle.part_model.specs.Runs.{AreRuns};
 
@@ -106,6 +107,13 @@ impl Partition {
             }
             Err(_) => Err(ApplyError::NoMemory),
         }
+    }
+
+    /// Whether the bytes of the live regions are few enough to be counted.
+    pub fn can_count(&self) -> bool
+        ensures { IsTrue result ↔ (bytes_held (holder_at self.now) ≤ 2 ^ 64 - 1) }
+    {
+        are_countable(self.runs.as_slice())
     }
 
     /// How many regions are live, how many bytes they have, and how many of these each kind of holder has. A region is

@@ -4,7 +4,8 @@ ghost use Rattle.pool_types.specs.declared.values.Place.{Place};
 ghost use Rattle.part_model.specs.Holding.{same_region, lies_in, after_part, after_parts, IsWhole, AreWhole};
 ghost use Rattle.part_model.specs.Runs.{holder_at, at_piece, first_of, count_of, cover, is_before, is_behind, IsSound, AreRuns, IsOnce, IsAlike, IsFirstElsewhere};
 
-use crate::holders::{Holder, Part, Range};
+use crate::holders::Holder;
+use crate::moves::{Part, Range, is_same_region};
 use pool_types::Place;
 use std::alloc::{AllocError, Global};
 
@@ -13,13 +14,6 @@ use std::alloc::{AllocError, Global};
 pub(crate) struct Run {
     pub(crate) range: Range,
     pub(crate) holder: Holder,
-}
-
-/// Whether both lie in one region of one pool.
-pub(crate) fn is_same_region(one: &Place, other: &Place) -> bool
-    ensures { result ≡ same_region one.now other.now }
-{
-    one.pool == other.pool && one.region == other.region
 }
 
 /// Whether the byte lies in the range.

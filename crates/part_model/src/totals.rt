@@ -1,10 +1,11 @@
 //! How many bytes each kind of holder has.
-ghost use Rattle.std.specs.Prelude.{◌≡◌, ◌≤◌, ◌-◌, ◌^◌};
+ghost use Rattle.std.specs.Prelude.{◌↔◌, IsTrue, ◌≡◌, ◌≤◌, ◌-◌, ◌^◌};
 ghost use Rattle.part_model.specs.Runs.{holder_at, AreRuns, has_region_at, run_bytes};
 ghost use Rattle.part_model.specs.Totals.{bytes_at, bytes_held, regions_held, totals_of};
 
 use crate::holders::Kind;
-use crate::runs::{Run, is_same_region};
+use crate::moves::is_same_region;
+use crate::runs::Run;
 use pool_types::Place;
 
 /// Counts of a partition: its live regions, their bytes, and how many of these each kind of holder has.
@@ -24,6 +25,21 @@ pub struct Totals {
     pub bin: u64,
     pub queue: u64,
     pub hand: u64,
+}
+
+/// Whether the bytes of all runs are few enough to be counted.
+pub(crate) fn are_countable(runs: &[Run]) -> bool
+    requires { AreRuns runs.now }
+    ensures { IsTrue result ↔ (bytes_held (holder_at runs.now) ≤ 2 ^ 64 - 1) }
+{
+    let mut bytes: u64 = 0;
+    for run in runs {
+        match bytes.checked_add(run.range.bytes) {
+            Some(more) => bytes = more,
+            None => return false,
+        }
+    }
+    true
 }
 
 /// The bytes of all runs.

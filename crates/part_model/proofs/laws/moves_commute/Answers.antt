@@ -1,4 +1,4 @@
-use Rattle.part_model.proofs.Moves.{moves_apart}
+use Rattle.part_model.proofs.Changes.{moves_apart}
 use Rattle.part_model.proofs.laws.moves_commute.Goals as goal
 
 pub returns : goal.returns

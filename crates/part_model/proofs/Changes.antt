@@ -6,8 +6,8 @@ use Rattle.std.proofs.lemmas.Bool.{cases_Bool}
 use Rattle.pool_types.specs.declared.values.Place.{Place}
 use Rattle.part_model.specs.declared.holders.Holder.{Holder}
 use Rattle.part_model.specs.declared.holders.Holder.TheVariants.{Waste, Head, Rest, Private, Public, Object, LargeHead, SlabCache, Cached, Bin, Queue, Hand}
-use Rattle.part_model.specs.declared.holders.Range.{Range}
-use Rattle.part_model.specs.declared.holders.Part.{Part}
+use Rattle.part_model.specs.declared.moves.Range.{Range}
+use Rattle.part_model.specs.declared.moves.Part.{Part}
 use Rattle.part_model.specs.Lawful.{is_lawful_pair}
 use Rattle.part_model.specs.Holding.{Holding, lies_in, after_part, after_parts, IsApartFromAll, AreApart, CanMoveAll}
 use Rattle.part_model.specs.Totals.{is_at, has_holder}
