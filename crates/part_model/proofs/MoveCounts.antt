@@ -1,5 +1,5 @@
 -- Counts of bytes after a move, and their sum.
-use Rattle.std.proofs.Common.{◌==◌, ◌&&◌, ◌⊎◌, inl, inr, length, get_or, ◌≡◌, ℕ, ◌+◌, ◌^◌, Bool, true, false, List, [], ◌∷◌, All, nat_lt, refl, sym, ◌∙◌, ap, arith}
+use Rattle.std.proofs.Common.{◌==◌, ◌&&◌, ◌⊎◌, inl, inr, get_or, ◌≡◌, ℕ, ◌+◌, ◌^◌, Bool, true, false, List, [], ◌∷◌, All, nat_lt, refl, sym, ◌∙◌, ap, arith}
 use Rattle.std.specs.Prelude.{if◌then◌else◌, sum_by, count_by}
 use Rattle.std.specs.declared.option.Option.{Option}
 use Rattle.std.proofs.lemmas.Bool.Decides.{nat_tests}
@@ -11,7 +11,7 @@ use Rattle.part_model.specs.declared.holders.Holder.{Holder}
 use Rattle.part_model.specs.declared.holders.Kind.{Kind}
 use Rattle.part_model.specs.declared.moves.Part.{Part}
 use Rattle.part_model.specs.Holding.{Holding, lies_in, after_part, after_parts, AreApart, AreWhole, IsWhole, CanMoveAll}
-use Rattle.part_model.specs.Totals.{is_region, regions_held, sum_below, sum_regions, place_at, region_bytes, is_at, has_holder, bytes_at, bytes_held, is_live}
+use Rattle.part_model.specs.Totals.{is_region, sum_below, sum_regions, place_at, region_bytes, is_at, has_holder, bytes_at, bytes_held, is_live}
 use Rattle.part_model.specs.Laws.{IsWithin, region_from, region_to, LiveFollow, kinds, IsPlaced, bytes_from, bytes_to, TotalsFollow, live_bytes, TotalsSum}
 use Rattle.part_model.proofs.Changes.{can_move-after_part, kinds-one}
 use Rattle.part_model.proofs.Sums.{sum_below-same, sum_below-add, sum_below-none, sum_regions-same, sum_regions-add, sum_regions-none, sum_regions-one}
@@ -134,7 +134,7 @@ region_bytes-parts seat held [] pool region apart whole can = refl
 region_bytes-parts seat held (part ∷ parts) pool region (first, apart) whole (can, can_rest) =
     let one = region_bytes-part has_holder held part pool region (whole 0 part (omega arith)) can.there in
     let rest = region_bytes-parts seat (after_part held part) parts pool region apart (All-tail (λ (p : Part). IsWhole p.range) part parts whole)
-        (can_move-after_part seat held part parts first can_rest) in
+    (can_move-after_part seat held part parts first can_rest) in
     let from = sum_by-cons (λ (p : Part). if is_region pool region p.range then (if has_holder p.from then p.range.bytes else 0) else 0) part parts in
     let to = sum_by-cons (λ (p : Part). if is_region pool region p.range then (if has_holder p.to then p.range.bytes else 0) else 0) part parts in
     omega (arith, one, rest, from, to)
@@ -191,17 +191,19 @@ live_follow_is seat held parts apart whole can =
           let left = sum_regions-add (λ p r. if is_live (after_parts held parts) p r then 1 else 0) (λ p r. if (p == pool) && (r == region) then (if is_live held pool region then 1 else 0) else 0) in
           let right = sum_regions-add (λ p r. if is_live held p r then 1 else 0) (λ p r. if (p == pool) && (r == region) then (if is_live (after_parts held parts) pool region then 1 else 0) else 0) in
           let same = sum_regions-same
-            (λ p r. (if is_live (after_parts held parts) p r then 1 else 0) + (if (p == pool) && (r == region) then (if is_live held pool region then 1 else 0) else 0))
-            (λ p r. (if is_live held p r then 1 else 0) + (if (p == pool) && (r == region) then (if is_live (after_parts held parts) pool region then 1 else 0) else 0))
-            (λ p r below_pool below_region. swap pool region p r (cases_Bool ((p == pool) && (r == region))) (λ other. none p r (bytes p r) (region_from-other p r parts (of_no_other pool region p r parts all other)))) in
+          (λ p r. (if is_live (after_parts held parts) p r then 1 else 0) + (if (p == pool) && (r == region) then (if is_live held pool region then 1 else 0) else 0))
+          (λ p r. (if is_live held p r then 1 else 0) + (if (p == pool) && (r == region) then (if is_live (after_parts held parts) pool region then 1 else 0) else 0))
+          (λ p r below_pool below_region. swap pool region p r (cases_Bool ((p == pool) && (r == region))) (λ other. none p r (bytes p r) (region_from-other p r parts (of_no_other pool region p r parts all other)))) in
           omega (arith, old, new, left, right, same);
     }
   where
     live : (new old from to : ℕ) → new + from ≡ old + to → from ≡ to → ◌≡◌ {A = ℕ} (if nat_lt 0 new then 1 else 0) (if nat_lt 0 old then 1 else 0)
     live new old from to bytes same = let e : new ≡ old = omega arith in ap {B = ℕ} (λ n. if nat_lt 0 n then 1 else 0) e
+
     none : (p r : ℕ) → region_bytes has_holder (after_parts held parts) p r + region_from p r parts ≡ region_bytes has_holder held p r + region_to p r parts →
         (region_from p r parts ≡ 0) × (region_to p r parts ≡ 0) → region_bytes has_holder (after_parts held parts) p r ≡ region_bytes has_holder held p r
     none p r bytes (from, to) = omega (arith, bytes, from, to)
+
     swap : (pool region p r : ℕ) → (((p == pool) && (r == region)) ≡ true) ⊎ (((p == pool) && (r == region)) ≡ false) →
         (((p == pool) && (r == region)) ≡ false → region_bytes has_holder (after_parts held parts) p r ≡ region_bytes has_holder held p r) →
         ◌≡◌ {A = ℕ} ((if is_live (after_parts held parts) p r then 1 else 0) + (if (p == pool) && (r == region) then (if is_live held pool region then 1 else 0) else 0))

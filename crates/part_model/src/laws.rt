@@ -23,8 +23,7 @@ pub fn totals_follow()
 /// pool and with those that it brings in, and their number follows.
 pub fn regions_follow()
     ensures { LiveFollow }
-{
-}
+{}
 
 /// The bytes at all kinds of holders sum to the bytes of the live regions.
 pub fn totals_sum()

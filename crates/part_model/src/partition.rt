@@ -126,3 +126,6 @@ impl Partition {
         counted(self.runs.as_slice())
     }
 }
+
+#[cfg(test)]
+mod tests;
