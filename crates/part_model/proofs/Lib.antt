@@ -1,0 +1,6 @@
+pub mod RunLemmas
+pub mod Apart
+pub mod Changes
+pub mod Sums
+pub mod Counts
+pub mod MoveCounts
