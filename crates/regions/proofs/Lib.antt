@@ -1,0 +1,4 @@
+pub mod Growing
+pub mod RunLemmas
+pub mod Shrinking
+pub mod SlotLemmas

@@ -1,0 +1,41 @@
+-- Where fewer than 64 regions are out, one of any 64 numbers in a row has a free slot.
+use Rattle.std.proofs.Common.{◌≡◌, ℕ, zero, suc, ◌+◌, ◌%◌, ◌<◌, ◌≤◌, Bool, true, not, arith, ◌∙◌, refl, List, [], ◌∷◌, length}
+use Rattle.std.proofs.lemmas.Bool.Decides.{nat_tests}
+use Rattle.std.proofs.lemmas.List.Filters.{length-filter_both}
+use Rattle.std.proofs.lemmas.Map.Views.{any-filter_same}
+use Rattle.std.specs.Prelude.{◌==◌, ◌&&◌, filter}
+use Rattle.std.specs.List.{list_any}
+use Rattle.pool_types.specs.declared.policy.RegionRec.{RegionRec}
+use Rattle.regions.specs.Numbers.{is_slot_taken}
+
+abbrev same_slot : ℕ → RegionRec → Bool
+same_slot number one = one.number % 64 == number % 64
+
+abbrev other_slot : ℕ → RegionRec → Bool
+other_slot number one = not (same_slot number one)
+
+-- numbers less than 64 apart have other slots
+apart : (counter k n : ℕ) → k < n → n < 64 → (one : RegionRec) → same_slot (counter + k) one ≡ true → other_slot (counter + n) one ≡ true
+apart counter k n below low one same = grind (arith, nat_tests)
+
+-- a list with an element that passes is not empty
+some : {X : Type 0} (p : X → Bool) (xs : List X) → list_any p xs ≡ true → 1 ≤ length xs
+some p [] any = cc
+some p (x ∷ xs) any = omega arith
+
+same_true : (a : Bool) → a ≡ true → (true && a) ≡ true
+same_true a is = is
+
+pub taken_slots : (n : ℕ) (records : List RegionRec) (counter : ℕ) → n ≤ 64 → ((k : ℕ) → k < n → is_slot_taken records (counter + k) ≡ true) → n ≤ length records
+taken_slots zero records counter low taken = omega arith
+taken_slots (suc n) records counter low taken =
+    let here : 1 ≤ length (filter (same_slot (counter + n)) records) =
+    some (same_slot (counter + n)) (filter (same_slot (counter + n)) records) (any-filter_same (same_slot (counter + n)) (same_slot (counter + n)) true (λ one same. same) records ∙ taken n (omega arith)) in
+    let rest : n ≤ length (filter (other_slot (counter + n)) records) =
+    taken_slots n (filter (other_slot (counter + n)) records) counter (omega arith)
+    (λ k below. any-filter_same (same_slot (counter + k)) (other_slot (counter + n)) true (apart counter k n below (omega arith)) records ∙ taken k (omega arith)) in
+    omega (arith, length-filter_both (same_slot (counter + n)) (other_slot (counter + n)) (λ one. refl) records)
+
+-- so the search finds one
+pub some_slot : (records : List RegionRec) (counter : ℕ) → length records < 64 → ((k : ℕ) → counter ≤ k → k < counter + 64 → is_slot_taken records k ≡ true) → ⊥
+some_slot records counter few taken = let all : 64 ≤ length records = taken_slots 64 records counter (omega arith) (λ k below. taken (counter + k) (omega arith) (omega arith)) in omega arith

@@ -1,0 +1,189 @@
+//! The office and its calls.
+ghost use Rattle.std.specs.Prelude.{◌≡◌, ◌<◌, ◌≤◌, ◌==◌, [], true, false, ℕ, IfOk, IfErr, length, slice_index_or};
+ghost use Rattle.std.specs.List.{list_any};
+ghost use Rattle.pool_types.specs.Policies.{IsAllowed};
+ghost use Rattle.pool_types.specs.declared.policy.RegionRec.{RegionRec};
+
+use crate::asking::{bytes_for, indices_for};
+use crate::errors::ObtainError;
+use crate::numbers::{MOST_REGIONS, next_number};
+use crate::placing::record_of;
+use crate::runs::{Run, longest_run};
+use arrayvec::ArrayVec;
+use pool_types::{Limits, Policy, Raw, RegionRec};
+use std::marker::Model;
+
+/// Numbers of regions end below this.
+const NUMBERS_END: u32 = 4194304;
+
+/// What is asked of the callback: so many bytes, for the region that gets this number, which the longest free run has
+/// room for.
+#[derive(Clone, Copy)]
+struct Asking {
+    number: u32,
+    bytes: u64,
+    longest: Run,
+}
+
+/// Keeps the records of the regions that a pool has got from its callback and not given back, by number.
+///
+/// A number is never used twice, and numbers end below 4194304. At most 64 regions are out, and no two of them have
+/// numbers that are equal modulo 64. No call takes memory.
+#[derive(Drop)]
+pub struct Office<R: Raw> {
+    policy: Policy,
+    limits: Limits,
+    raw: R,
+    records: ArrayVec<RegionRec, 64>,
+    counter: u32,
+    has_got: bool,
+}
+
+impl<R: Raw> Model for Office<R> {
+    ghost use Rattle.regions.specs.Offices.{Desk, IsSound};
+
+    ghost Value = { Desk R };
+
+    ghost view = { λ o. record { policy = o.policy; limits = o.limits; records = o.records.items; counter = o.counter; has_got = o.has_got; raw = o.raw } };
+
+    ghost invariant = { λ o. IsSound R.out (record { policy = o.policy; limits = o.limits; records = o.records.items; counter = o.counter; has_got = o.has_got; raw = o.raw }) };
+}
+
+impl<R: Raw> Office<R> {
+    ghost use Rattle.regions.specs.Offices.{IsSound};
+    ghost use Rattle.regions.specs.Asking.{asked_indices};
+    ghost use Rattle.regions.specs.Indices.{IsLongestRun};
+    ghost use Rattle.regions.specs.Obtaining.{Obtains, Gives, HasNumber, IsRefused, bytes_for, starts_at};
+
+    /// With no region, over a callback that has none out.
+    pub fn over(policy: Policy, limits: Limits, raw: R) -> Self
+        requires allowed { IsAllowed policy limits }
+        requires none_out { R.out raw ≡ [] }
+        ensures { result ≡ record { policy = policy; limits = limits; records = []; counter = 0; has_got = false; raw = raw } }
+    {
+        Office {
+            policy,
+            limits,
+            raw,
+            records: ArrayVec::new(),
+            counter: 0,
+            has_got: false,
+        }
+    }
+
+    /// The records of the regions out, by number.
+    pub fn regions(&self) -> &[RegionRec]
+        ensures records { result.now ≡ self.now.records }
+        ensures sound { IsSound R.out self.now }
+    {
+        self.records.as_slice()
+    }
+
+    /// Gives the callback back.
+    pub fn end(self) -> R
+        ensures raw { result ≡ self.raw }
+        ensures sound { IsSound R.out self }
+    {
+        let Office { raw, .. } = self;
+        raw
+    }
+
+    /// Gets one more region for so many granules. A fixed office asks for the least region whatever is needed, and
+    /// never again once a region came. The answer is the first that holds of: `HasRegion`, `RegionsFull`, `SpanFull`,
+    /// and `RawFailed` where the callback gives nothing; then nothing has changed but the callback. Else the region is
+    /// placed at the lowest start of the right parity where its granules and its wall are free, or, where there is
+    /// none, in the longest free run, the lowest of equals, with as many granules as fit.
+    pub fn obtain(&mut self, granules: u32) -> Result<RegionRec, ObtainError>
+        requires some { 1 ≤ granules }
+        requires most { granules < self.old.limits.span }
+        ensures obtains { Obtains R.out R.faults R.got self.old granules result self.new }
+        ensures sound { IsSound R.out self.new }
+    {
+        let asking = self.asking(granules)?;
+        let Some(region) = self.raw.get(asking.bytes) else {
+            return Err(ObtainError::RawFailed);
+        };
+        let records = self.records.as_slice();
+        let record = record_of(
+            records,
+            self.limits.span,
+            asking.longest,
+            asking.number,
+            region,
+        );
+        self.records.push(record);
+        self.counter = asking.number + 1;
+        self.has_got = true;
+        Ok(record)
+    }
+
+    /// Passes the region that starts at this index to the callback, and answers what it answers. Whatever that is, the
+    /// region's record is gone.
+    pub fn give(&mut self, first: u32) -> bool
+        requires { starts_at self.old first ≡ true }
+        ensures gives { Gives R.out R.faults R.passed self.old first result self.new }
+        ensures sound { IsSound R.out self.new }
+    {
+        let place = place_of_first(self.records.as_slice(), first);
+        let record = self.records.remove(place);
+        self.raw.put(record.region)
+    }
+
+    /// The number that the next region gets.
+    fn next_number(&self) -> Result<u32, ObtainError>
+        ensures number { IfOk result (HasNumber self.now) }
+        ensures refused { IfErr result (λ error. (granules : ℕ) → IsRefused self.now granules error) }
+    {
+        if self.policy.fixed && self.has_got {
+            return Err(ObtainError::HasRegion);
+        }
+        let records = self.records.as_slice();
+        let out = records.len() as u32;
+        let next = next_number(records, self.counter);
+        if out >= MOST_REGIONS || next >= NUMBERS_END {
+            return Err(ObtainError::RegionsFull { out, next });
+        }
+        Ok(next)
+    }
+
+    /// What is asked of the callback, and where there is room for what it gives.
+    fn asking(&self, granules: u32) -> Result<Asking, ObtainError>
+        requires { granules < self.now.limits.span }
+        ensures number { IfOk result (λ asking. HasNumber self.now asking.number) }
+        ensures bytes { IfOk result (λ asking. asking.bytes ≡ bytes_for self.now granules) }
+        ensures least { IfOk result (λ asking. 8192 ≤ asking.bytes) }
+        ensures longest { IfOk result (λ asking. IsLongestRun self.now.limits.span self.now.records asking.longest.start asking.longest.count) }
+        ensures enough { IfOk result (λ asking. asked_indices asking.bytes ≤ asking.longest.count) }
+        ensures refused { IfErr result (IsRefused self.now granules) }
+    {
+        let number = self.next_number()?;
+        let bytes = bytes_for(&self.policy, &self.limits, granules);
+        let asked = indices_for(bytes);
+        let longest = longest_run(self.records.as_slice(), self.limits.span);
+        if longest.count < asked {
+            return Err(ObtainError::SpanFull {
+                asked,
+                greatest: longest.count,
+            });
+        }
+        Ok(Asking {
+            number,
+            bytes,
+            longest,
+        })
+    }
+}
+
+/// The place of the record that starts at the index.
+fn place_of_first(records: &[RegionRec], first: u32) -> usize
+    requires { list_any (λ one. one.first == first) records.now ≡ true }
+    ensures below { result < length records.now }
+    ensures there { (other : RegionRec) → (slice_index_or records.now result other).first ≡ first }
+{
+    for (place, one) in records.iter().enumerate() {
+        if one.first == first {
+            return place;
+        }
+    }
+    unreachable!()
+}
