@@ -14,8 +14,9 @@ use Rattle.pool_types.specs.declared.values.Region.{Region}
 use Rattle.pool_types.specs.Regions.{meets, IsFresh}
 use Rattle.regions.specs.Indices.{has_index, IsFreeRun}
 use Rattle.regions.specs.Obtaining.{HasNumber}
-use Rattle.regions.specs.Offices.{Desk, IsSound, IsLawful, AreApart}
+use Rattle.regions.specs.Offices.{Desk, desk_of, IsSound, IsLawful, AreApart}
 use Rattle.regions.specs.Placing.{IsPlaced, IsWhole, IsCut, IsRecord, parity_of, whole_granules}
+use Rattle.regions.proofs.SlotLemmas.{next_free}
 
 -- where no element passes, the one at a place does not
 not_at : {X : Type 0} (p : X → Bool) (xs : List X) (k : ℕ) (d : X) → k < length xs → list_any p xs ≡ false → p (get_or xs k d) ≡ false
@@ -127,19 +128,19 @@ module _ {R : Type 0} (out : R → List Region) (old : Desk R) (one : RegionRec)
     where
       other_slot : (get_or old.records k d).number % 64 ≡ one.number % 64 → ⊥
       other_slot same =
-          let free : ((get_or old.records k d).number % 64 == one.number % 64) ≡ false = not_at (λ x. x.number % 64 == one.number % 64) old.records k d below (numbered.next_is.free few) in
+          let free : ((get_or old.records k d).number % 64 == one.number % 64) ≡ false = not_at (λ x. x.number % 64 == one.number % 64) old.records k d below (next_free old.records old.counter one.number numbered.next_is few) in
           grind (arith, nat_tests)
 
       not_met : meets (get_or old.records k d).region one.region ≡ false
       not_met =
-          let same : get_or (out old.raw) k d.region ≡ (get_or old.records k d).region = ap (λ xs. get_or xs k d.region) sound.homes ∙ get_or-map (λ x. x.region) old.records k d d.region below in
-          let inside : k < length (out old.raw) = rw (sound.homes, length-map) below in
+          let same : get_or (out old.raw) k d.region ≡ (get_or old.records k d).region = ap (λ xs. get_or xs k d.region) sound.regions ∙ get_or-map (λ x. x.region) old.records k d d.region below in
+          let inside : k < length (out old.raw) = rw (sound.regions, length-map) below in
           ap (λ x. meets x one.region) (sym same) ∙ not_at (λ x. meets x one.region) (out old.raw) k d.region inside fresh.apart
 
-  pub grown : out raw ≡ out old.raw ++ one.region ∷ [] → IsSound out (record old { records = old.records ++ one ∷ []; counter = one.number + 1; has_got = true; raw = raw })
+  pub grown : out raw ≡ out old.raw ++ one.region ∷ [] → IsSound out (desk_of old.policy old.limits (old.records ++ one ∷ []) (one.number + 1) true raw)
   grown out_grows = record {
     allowed = sound.allowed;
-    homes = out_grows ∙ ap (λ xs. xs ++ one.region ∷ []) sound.homes ∙ sym (map-append (λ x. x.region) old.records (one ∷ []));
+    regions = out_grows ∙ ap (λ xs. xs ++ one.region ∷ []) sound.regions ∙ sym (map-append (λ x. x.region) old.records (one ∷ []));
     most = grind (arith, common_steps, few);
     numbers = omega (arith, low);
     each = All-append (IsLawful old.limits.span (one.number + 1)) old.records (one ∷ []) still new_one;
@@ -170,8 +171,8 @@ module _ {R : Type 0} (out : R → List Region) (old : Desk R) (one : RegionRec)
 -- the same of the number and the region that the record is made of
 pub came : {R : Type 0} (out : R → List Region) (old : Desk R) (one : RegionRec) (raw : R) (bytes number : ℕ) (region : Region) → one.number ≡ number → one.region ≡ region →
     IsSound out old → HasNumber old number → 8192 ≤ bytes → IsFresh (out old.raw) bytes region → IsRecord old.limits.span old.records one → out raw ≡ out old.raw ++ region ∷ [] →
-    IsSound out (record old { records = old.records ++ one ∷ []; counter = number + 1; has_got = true; raw = raw })
+    IsSound out (desk_of old.policy old.limits (old.records ++ one ∷ []) (number + 1) true raw)
 came out old one raw bytes number region number_is region_is sound numbered least fresh is_record out_grows =
-    subst (λ (n : ℕ). IsSound out (record old { records = old.records ++ one ∷ []; counter = n + 1; has_got = true; raw = raw })) number_is
+    subst (λ (n : ℕ). IsSound out (desk_of old.policy old.limits (old.records ++ one ∷ []) (n + 1) true raw)) number_is
     (grown out old one raw bytes sound (subst (λ (n : ℕ). HasNumber old n) (sym number_is) numbered) least
     (subst (λ (r : Region). IsFresh (out old.raw) bytes r) (sym region_is) fresh) is_record (out_grows ∙ ap (λ r. out old.raw ++ r ∷ []) (sym region_is)))

@@ -1,3 +1,4 @@
+pub mod Exact
 pub mod Growing
 pub mod RunLemmas
 pub mod Shrinking

@@ -11,7 +11,7 @@ use Rattle.std.proofs.Math.Seq.{get_or-append_seam}
 use Rattle.pool_types.specs.declared.policy.RegionRec.{RegionRec}
 use Rattle.pool_types.specs.declared.values.Region.{Region}
 use Rattle.pool_types.specs.Regions.{meets, Loses}
-use Rattle.regions.specs.Offices.{Desk, IsSound, IsLawful, AreApart, regions_of}
+use Rattle.regions.specs.Offices.{Desk, desk_of, IsSound, IsLawful, AreApart, regions_of}
 
 -- a region with a byte meets itself
 meets_itself : (one : Region) → 1 ≤ one.bytes → meets one one ≡ true
@@ -58,15 +58,15 @@ module _ {R : Type 0} (out : R → List Region) (old : Desk R) (raw : R) (place 
   homes : out raw ≡ regions_of (remove old.records place)
   homes =
       let lost : IsLostAt (out old.raw) (out raw) one.region = lost_at (out old.raw) (out raw) one.region loses in
-      let inside : lost.place < length old.records = subst (λ (n : ℕ). lost.place < n) (ap length sound.homes ∙ length-map old.records (λ x. x.region)) lost.below in
-      let same : (get_or old.records lost.place one).region ≡ one.region = sym (get_or-map (λ x. x.region) old.records lost.place one one.region inside) ∙ ap (λ xs. get_or xs lost.place one.region) (sym sound.homes) ∙ lost.there in
+      let inside : lost.place < length old.records = subst (λ (n : ℕ). lost.place < n) (ap length sound.regions ∙ length-map old.records (λ x. x.region)) lost.below in
+      let same : (get_or old.records lost.place one).region ≡ one.region = sym (get_or-map (λ x. x.region) old.records lost.place one one.region inside) ∙ ap (λ xs. get_or xs lost.place one.region) (sym sound.regions) ∙ lost.there in
       let is_place : lost.place ≡ place = only_at lost.place inside same in
-      rw (lost.rest, is_place, sound.homes, take-map, drop-map) (sym (map-append (λ x. x.region) (take place old.records) (drop (suc place) old.records)))
+      rw (lost.rest, is_place, sound.regions, take-map, drop-map) (sym (map-append (λ x. x.region) (take place old.records) (drop (suc place) old.records)))
 
-  pub shrunk : IsSound out (record old { records = remove old.records place; raw = raw })
+  pub shrunk : IsSound out (desk_of old.policy old.limits (remove old.records place) old.counter old.has_got raw)
   shrunk = record {
     allowed = sound.allowed;
-    homes = homes;
+    regions = homes;
     most = omega (arith, length-remove old.records place below, sound.most);
     numbers = sound.numbers;
     each = All-append (IsLawful old.limits.span old.counter) (take place old.records) (drop (suc place) old.records)

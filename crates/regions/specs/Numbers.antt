@@ -1,5 +1,5 @@
 -- The number that the next region gets.
-use Rattle.std.specs.Prelude.{◌≡◌, ℕ, ◌%◌, ◌<◌, ◌≤◌, ◌==◌, Bool, true, false, ◌||◌, nat_le, List, length}
+use Rattle.std.specs.Prelude.{◌≡◌, ℕ, ◌%◌, ◌<◌, ◌≤◌, ◌==◌, Bool, true, false, ◌||◌, nat_le, List}
 use Rattle.std.specs.List.{list_any}
 use Rattle.pool_types.specs.declared.policy.RegionRec.{RegionRec}
 
@@ -7,12 +7,12 @@ use Rattle.pool_types.specs.declared.policy.RegionRec.{RegionRec}
 abbrev pub is_slot_taken : List RegionRec → ℕ → Bool
 is_slot_taken records number = list_any (λ one. one.number % 64 == number % 64) records
 
--- the least number from the counter on whose slot is free, or the counter where 64 regions are out
+-- the least number from the counter on whose slot is free, or the counter where no slot is free
 pub record IsNext (records : List RegionRec) (counter next : ℕ) : Type 0 where
   pub from : counter ≤ next
   pub least : (number : ℕ) → counter ≤ number → number < next → is_slot_taken records number ≡ true
-  pub free : length records < 64 → is_slot_taken records next ≡ false
-  pub none : 64 ≤ length records → next ≡ counter
+  pub free : (number : ℕ) → is_slot_taken records number ≡ false → is_slot_taken records next ≡ false
+  pub none : ((number : ℕ) → is_slot_taken records number ≡ true) → next ≡ counter
 
 -- no more regions can come: 64 are out, or the numbers are used up
 abbrev pub is_full : ℕ → ℕ → Bool

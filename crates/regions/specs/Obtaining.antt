@@ -11,7 +11,7 @@ use Rattle.regions.specs.Asking.{asked_bytes, asked_indices}
 use Rattle.regions.specs.Indices.{IsLongestRun}
 use Rattle.regions.specs.Numbers.{IsNext, is_full}
 use Rattle.regions.specs.Placing.{IsRecord}
-use Rattle.regions.specs.Offices.{Desk}
+use Rattle.regions.specs.Offices.{Desk, desk_of}
 
 module _ {R : Type 0} where
   -- a fixed office that once got a region
@@ -81,7 +81,7 @@ module _ {R : Type 0} (out : R → List Region) (faults : R → ℕ) (got : R �
     pub out_grows : out new.raw ≡ out old.raw ++ one.region ∷ []
     pub faults_stay : faults new.raw ≡ faults old.raw
     pub is_record : IsRecord old.limits.span old.records one
-    pub after : new ≡ record old { records = old.records ++ one ∷ []; counter = one.number + 1; has_got = true; raw = new.raw }
+    pub after : new ≡ desk_of old.policy old.limits (old.records ++ one ∷ []) (one.number + 1) true new.raw
 
   -- what a call that obtains may answer, and the office after it
   abbrev pub Obtains : Desk R → ℕ → Result RegionRec ObtainError → Desk R → Type 0
@@ -92,7 +92,8 @@ module _ {R : Type 0} (out : R → List Region) (faults : R → ℕ) (got : R �
   Obtains old granules (Err (SpanFull asked greatest)) new = IsRefused old granules (SpanFull asked greatest) × (new ≡ old)
 
 -- the region at this index is passed to the callback, and its record is gone
-pub record Gives {R : Type 0} (out : R → List Region) (faults : R → ℕ) (passed : R → Region → Bool → R → Type 0) (old : Desk R) (first : ℕ) (answer : Bool) (new : Desk R) : Type 0 where
+pub record Gives {R : Type 0} (out : R → List Region) (faults : R → ℕ) (passed : R → Region → Bool → R → Type 0)
+    (old : Desk R) (first : ℕ) (answer : Bool) (new : Desk R) : Type 0 where
   pub one : RegionRec
   pub place : ℕ
   pub below : place < length old.records

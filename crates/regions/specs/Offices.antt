@@ -9,8 +9,8 @@ use Rattle.pool_types.specs.Policies.{IsAllowed}
 use Rattle.pool_types.specs.Regions.{meets}
 use Rattle.regions.specs.Placing.{IsAligned, parity_of}
 
--- the policy and the limits, the records of the regions out by number, the least number that was not yet looked at, whether a
--- region ever came, and the callback
+-- the policy and the limits, the records of the regions out by number, the number from which the next one is sought,
+-- whether a region ever came, and the callback
 pub record Desk (R : Type 0) : Type 0 where
   pub policy : Policy
   pub limits : Limits
@@ -18,6 +18,10 @@ pub record Desk (R : Type 0) : Type 0 where
   pub counter : ℕ
   pub has_got : Bool
   pub raw : R
+
+abbrev pub desk_of : {R : Type 0} → Policy → Limits → List RegionRec → ℕ → Bool → R → Desk R
+desk_of policy limits records counter has_got raw =
+    record { policy = policy; limits = limits; records = records; counter = counter; has_got = has_got; raw = raw }
 
 -- the regions of these records
 abbrev pub regions_of : List RegionRec → List Region
@@ -42,7 +46,7 @@ pub record AreApart (earlier later : RegionRec) : Type 0 where
 -- what always holds of an office; `out` gives the regions that its callback has out
 pub record IsSound {R : Type 0} (out : R → List Region) (desk : Desk R) : Type 0 where
   pub allowed : IsAllowed desk.policy desk.limits
-  pub homes : out desk.raw ≡ regions_of desk.records
+  pub regions : out desk.raw ≡ regions_of desk.records
   pub most : length desk.records ≤ 64
   pub numbers : desk.counter ≤ 4194304
   pub each : All (IsLawful desk.limits.span desk.counter) desk.records

@@ -33,7 +33,8 @@ pub record IsCut (span : ℕ) (records : List RegionRec) (parity whole first gra
   pub ends : first + granules + 1 ≡ start + count
 
 abbrev pub IsPlaced : ℕ → List RegionRec → ℕ → ℕ → ℕ → ℕ → Type 0
-IsPlaced span records parity whole first granules = IsWhole span records parity whole first granules ⊎ IsCut span records parity whole first granules
+IsPlaced span records parity whole first granules =
+    IsWhole span records parity whole first granules ⊎ IsCut span records parity whole first granules
 
 -- the first granule begins at the region's first multiple of 8192
 pub record IsAligned (one : RegionRec) : Type 0 where

@@ -16,18 +16,15 @@ fn is_slot_taken(records: &[RegionRec], number: u32) -> bool
         .any(|one| one.number % MOST_REGIONS == number % MOST_REGIONS)
 }
 
-/// The least number from the counter on whose slot is free, or the counter where 64 regions are out.
+/// The least number from the counter on whose slot is free, or the counter where no slot is free.
 pub fn next_number(records: &[RegionRec], counter: u32) -> u32
     requires { counter ≤ 4194304 }
     ensures { IsNext records.now counter result }
 {
-    if records.len() >= 64 {
-        return counter;
-    }
     for number in counter..counter + MOST_REGIONS {
         if !is_slot_taken(records, number) {
             return number;
         }
     }
-    unreachable!()
+    counter
 }

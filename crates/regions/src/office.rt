@@ -40,17 +40,17 @@ pub struct Office<R: Raw> {
 }
 
 impl<R: Raw> Model for Office<R> {
-    ghost use Rattle.regions.specs.Offices.{Desk, IsSound};
+    ghost use Rattle.regions.specs.Offices.{Desk, IsSound, desk_of};
 
     ghost Value = { Desk R };
 
-    ghost view = { λ o. record { policy = o.policy; limits = o.limits; records = o.records.items; counter = o.counter; has_got = o.has_got; raw = o.raw } };
+    ghost view = { λ o. desk_of o.policy o.limits o.records.items o.counter o.has_got o.raw };
 
-    ghost invariant = { λ o. IsSound R.out (record { policy = o.policy; limits = o.limits; records = o.records.items; counter = o.counter; has_got = o.has_got; raw = o.raw }) };
+    ghost invariant = { λ o. IsSound R.out (desk_of o.policy o.limits o.records.items o.counter o.has_got o.raw) };
 }
 
 impl<R: Raw> Office<R> {
-    ghost use Rattle.regions.specs.Offices.{IsSound};
+    ghost use Rattle.regions.specs.Offices.{IsSound, desk_of};
     ghost use Rattle.regions.specs.Asking.{asked_indices};
     ghost use Rattle.regions.specs.Indices.{IsLongestRun};
     ghost use Rattle.regions.specs.Obtaining.{Obtains, Gives, HasNumber, IsRefused, bytes_for, starts_at};
@@ -59,7 +59,8 @@ impl<R: Raw> Office<R> {
     pub fn over(policy: Policy, limits: Limits, raw: R) -> Self
         requires allowed { IsAllowed policy limits }
         requires none_out { R.out raw ≡ [] }
-        ensures { result ≡ record { policy = policy; limits = limits; records = []; counter = 0; has_got = false; raw = raw } }
+        ensures made { result ≡ desk_of policy limits [] 0 false raw }
+        ensures sound { IsSound R.out result }
     {
         Office {
             policy,
@@ -152,7 +153,8 @@ impl<R: Raw> Office<R> {
         ensures number { IfOk result (λ asking. HasNumber self.now asking.number) }
         ensures bytes { IfOk result (λ asking. asking.bytes ≡ bytes_for self.now granules) }
         ensures least { IfOk result (λ asking. 8192 ≤ asking.bytes) }
-        ensures longest { IfOk result (λ asking. IsLongestRun self.now.limits.span self.now.records asking.longest.start asking.longest.count) }
+        ensures longest { IfOk result (λ asking.
+            IsLongestRun self.now.limits.span self.now.records asking.longest.start asking.longest.count) }
         ensures enough { IfOk result (λ asking. asked_indices asking.bytes ≤ asking.longest.count) }
         ensures refused { IfErr result (IsRefused self.now granules) }
     {

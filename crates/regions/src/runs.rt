@@ -78,7 +78,8 @@ pub fn lowest_fit(records: &[RegionRec], span: u32, parity: u32, count: u64) -> 
     requires parity { parity < 2 }
     requires count { 1 ≤ count }
     ensures fits { IfSome result (λ start. IsFit span records.now parity count start) }
-    ensures lowest { IfSome result (λ start. (other : ℕ) → IsFit span records.now parity count other → start ≤ other) }
+    ensures lowest { IfSome result (λ start.
+        (other : ℕ) → IsFit span records.now parity count other → start ≤ other) }
     ensures none { IfNone result ((other : ℕ) → IsFit span records.now parity count other → ⊥) }
 {
     let mut at = 0;

@@ -169,3 +169,11 @@ fn a_refused_region_is_gone(rt: HostRuntime) -> Result<(), Fail> {
     let _ = office.end();
     Ok(())
 }
+
+#[test]
+fn a_region_may_have_no_granule(rt: HostRuntime) -> Result<(), Fail> {
+    let gets = [region(1048577, 8192)];
+    let mut office = office(rt.alloc(), FIXED, limits(16, 8192), &gets, &[])?;
+    assert_eq!(rt; office.obtain(1).map(row), Ok((0, 1, 0, 8191)));
+    Ok(())
+}

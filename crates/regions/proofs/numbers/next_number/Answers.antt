@@ -1,7 +1,7 @@
--- Some slot is free.
+-- Where none of 64 numbers has a free slot, no slot is free.
 use Rattle.std.proofs.Common.{arith}
-use Rattle.regions.proofs.SlotLemmas.{some_slot}
+use Rattle.regions.proofs.SlotLemmas.{counter_next}
 use Rattle.regions.proofs.numbers.next_number.Goals as goal
 
-pub unreachable-requires : goal.unreachable-requires
-unreachable-requires c = some_slot c.args.records.now c.args.counter c.if-records-ge64.false (λ k from below. c.loop-number.invariant k from (omega arith))
+pub returns : goal.returns
+returns c = counter_next c.args.records.now c.args.counter (λ k from below. c.loop-number.invariant k from (omega arith))
