@@ -19,6 +19,7 @@ pub record Desk (R : Type 0) : Type 0 where
   pub has_got : Bool
   pub raw : R
 
+-- what an office with these parts shows
 abbrev pub desk_of : {R : Type 0} → Policy → Limits → List RegionRec → ℕ → Bool → R → Desk R
 desk_of policy limits records counter has_got raw =
     record { policy = policy; limits = limits; records = records; counter = counter; has_got = has_got; raw = raw }

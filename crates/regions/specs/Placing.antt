@@ -32,6 +32,7 @@ pub record IsCut (span : ℕ) (records : List RegionRec) (parity whole first gra
   pub near : first ≤ start + 1
   pub ends : first + granules + 1 ≡ start + count
 
+-- so many whole granules are placed, all of them or cut down
 abbrev pub IsPlaced : ℕ → List RegionRec → ℕ → ℕ → ℕ → ℕ → Type 0
 IsPlaced span records parity whole first granules =
     IsWhole span records parity whole first granules ⊎ IsCut span records parity whole first granules
