@@ -1,0 +1,37 @@
+-- Names of threads, and bound names.
+use Rattle.std.specs.Prelude.{◌≡◌, ◌≢◌, ℕ, ◌+◌, Bool, true, false, ◌&&◌, ◌||◌, ◌==◌, nat_le, nat_lt, List, [], ◌∷◌, length, codes, Some, None}
+use Rattle.std.specs.List.{list_all}
+use Rattle.std.specs.declared.option.Option.{Option}
+use Rattle.trace_reader.specs.declared.names.ThreadName.{ThreadName}
+use Rattle.trace_reader.specs.declared.names.BoundName.{BoundName}
+
+-- one of the 26 letters from this one on
+abbrev pub is_letter : ℕ → ℕ → Bool
+is_letter first byte = nat_le first byte && nat_lt byte (first + 26)
+
+-- such a letter, a digit or `_`
+abbrev pub may_follow : ℕ → ℕ → Bool
+may_follow first byte = is_letter first byte || ((nat_le 48 byte && nat_lt byte 58) || (byte == 95))
+
+-- a letter, and then fewer than so many letters, digits and `_`
+abbrev pub is_name : ℕ → ℕ → List ℕ → Bool
+is_name first most [] = false
+is_name first most (letter ∷ more) = is_letter first letter && (nat_lt (length more) most && list_all (may_follow first) more)
+
+-- a thread's name has capital letters and at most 8 bytes
+abbrev pub IsThreadName : List ℕ → Type 0
+IsThreadName word = is_name 65 8 word ≡ true
+
+-- a bound name has small letters and at most 16 bytes, and is not `null`
+abbrev pub IsBoundName : List ℕ → Type 0
+IsBoundName word = (is_name 97 16 word ≡ true) × (word ≢ codes "null")
+
+-- the thread's name that the word spells, or that it spells none
+abbrev pub IsThreadNameOf : List ℕ → Option ThreadName → Type 0
+IsThreadNameOf word (Some name) = (word ≡ name.bytes.items) × IsThreadName word
+IsThreadNameOf word None = IsThreadName word → ⊥
+
+-- the bound name that the word spells, or that it spells none
+abbrev pub IsBoundNameOf : List ℕ → Option BoundName → Type 0
+IsBoundNameOf word (Some name) = (word ≡ name.bytes.items) × IsBoundName word
+IsBoundNameOf word None = IsBoundName word → ⊥

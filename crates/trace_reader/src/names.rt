@@ -1,0 +1,73 @@
+//! The names of threads, and those that a trace binds.
+ghost use Rattle.std.specs.Prelude.{◌≡◌, ◌≢◌, ◌≤◌, true, false};
+ghost use Rattle.std.specs.List.{list_all};
+ghost use Rattle.trace_reader.specs.Names.{IsThreadNameOf, IsBoundNameOf, is_name, may_follow};
+
+use crate::words::is_same;
+use arrayvec::ArrayVec;
+
+/// A thread's name: a letter A to Z, and then up to seven of A to Z, 0 to 9 and `_`.
+#[derive(Drop)]
+pub struct ThreadName {
+    pub bytes: ArrayVec<u8, 8>,
+}
+
+/// The name of what a call answered: a letter a to z, and then up to 15 of a to z, 0 to 9 and `_`. It is not `null`.
+#[derive(Drop)]
+pub struct BoundName {
+    pub bytes: ArrayVec<u8, 16>,
+}
+
+/// Whether the byte may stand behind the first letter of a name, whose letters begin at this one.
+fn may_stand(first: u8, byte: u8) -> bool
+    requires { first ≤ 97 }
+    ensures { result ≡ may_follow first byte }
+{
+    (first <= byte && byte < first + 26) || (b'0' <= byte && byte <= b'9') || byte == b'_'
+}
+
+/// Whether all these bytes may stand behind the first letter.
+fn may_all_stand(first: u8, bytes: &[u8]) -> bool
+    requires { first ≤ 97 }
+    ensures { result ≡ list_all (may_follow first) bytes.now }
+{
+    bytes.iter().all(|byte| may_stand(first, *byte))
+}
+
+/// Whether the word is a name of at most so many bytes, whose letters begin at this one.
+fn is_a_name(first: u8, most: usize, word: &[u8]) -> bool
+    requires { first ≤ 97 }
+    ensures { result ≡ is_name first most word.now }
+{
+    match word {
+        [] => false,
+        [letter, more @ ..] => {
+            if *letter < first || first + 26 <= *letter || most <= more.len() {
+                return false;
+            }
+            may_all_stand(first, more)
+        }
+    }
+}
+
+/// The thread's name that the word spells.
+pub fn read_thread_name(word: &[u8]) -> Option<ThreadName>
+    ensures { IsThreadNameOf word.now result }
+{
+    if !is_a_name(b'A', 8, word) {
+        return None;
+    }
+    let bytes = ArrayVec::try_from(word).ok()?;
+    Some(ThreadName { bytes })
+}
+
+/// The bound name that the word spells.
+pub fn read_bound_name(word: &[u8]) -> Option<BoundName>
+    ensures { IsBoundNameOf word.now result }
+{
+    if !is_a_name(b'a', 16, word) || is_same(word, b"null") {
+        return None;
+    }
+    let bytes = ArrayVec::try_from(word).ok()?;
+    Some(BoundName { bytes })
+}
