@@ -16,7 +16,7 @@ use Rattle.pool_types.specs.declared.policy.Limits.{Limits}
 use Rattle.pool_types.specs.declared.policy.RegionRec.{RegionRec}
 use Rattle.pool_types.specs.declared.rows.Keeper.TheVariants.{Seat}
 use Rattle.part_model.specs.declared.holders.Holder.{Holder}
-use Rattle.part_model.specs.declared.holders.Holder.TheVariants.{Object, SlabCache}
+use Rattle.part_model.specs.declared.holders.Holder.TheVariants.{Object, SlabCache, Cached, Queue, Hand}
 use Rattle.part_model.specs.declared.moves.Part.{Part}
 use Rattle.part_model.specs.Holding.{same_region, lies_in}
 use Rattle.size_classes.specs.declared.Served.{Served}
@@ -34,11 +34,13 @@ pub record Moment : Type 0 where
   pub state : State
   pub entry : Entry
 
--- a call: its seat, what it asked, the state when it began, and its steps so far
+-- A call: its seat, what it asked, the state when it began, whether no other seat was in a call at any time since, and its steps so
+-- far.
 pub record Call : Type 0 where
   pub seat : ℕ
   pub request : Request
   pub before : State
+  pub alone : Bool
   pub moments : List Moment
 
 -- the parts that a call has moved, in order
@@ -177,7 +179,12 @@ IsBackendCause terms served earlier seen after (NoFit looks) =
     × (looks.first ≡ first_bin served) × (looks.last ≡ 511) × (looks.seen ≡ seen)
 IsBackendCause terms served earlier seen after cause = ⊥
 
--- the backend gave nothing, for this cause
+-- no block waits in the queue or lies in the cache
+pub record NoneIsKept (state : State) : Type 0 where
+  pub queue : (byte : Place) → state.held byte ≢ Some Queue
+  pub cache : (byte : Place) (granules : ℕ) → state.held byte ≢ Some (Cached granules)
+
+-- The backend gave nothing, for this cause. Where no other seat was in a call, it had drained its queue and emptied its cache before.
 pub record IsRefusedByBackend (terms : Terms) (call : Call) (after : State) (cause : NullCause) : Type 0 where
   pub accepted : IsAccepted terms call
   pub earlier : List Moment
@@ -185,6 +192,7 @@ pub record IsRefusedByBackend (terms : Terms) (call : Call) (after : State) (cau
   pub seen : ℕ
   pub vain : LooksInVain terms.limits call earlier served seen
   pub found : IsBackendCause terms served earlier seen after cause
+  pub drained : call.alone ≡ true → NoneIsKept after
 
 -- Why there is no new object, in the order of the causes: the seat's numbers are spent, the block is as large as the span, or the
 -- backend gave nothing. The request isn't bad.
@@ -313,6 +321,8 @@ IsAnswerTo terms call after (Msize place) answer = IsMsizeAnswer terms.limits ca
 IsAnswerTo terms call after (Identify place) answer = IsIdentifyAnswer terms.limits call place answer
 IsAnswerTo terms call after Exit answer = IsExitAnswer call after answer
 
--- the answer is legal for a call with these steps, in the state after them
-abbrev pub IsLegal : Terms → Call → State → Answer → Type 0
-IsLegal terms call after answer = IsAnswerTo terms call after call.request answer
+-- The answer is legal for a call with these steps, in the state after them: it is one to what was asked, and the seat has nothing in
+-- hand any more.
+pub record IsLegal (terms : Terms) (call : Call) (after : State) (answer : Answer) : Type 0 where
+  pub answers : IsAnswerTo terms call after call.request answer
+  pub no_hand : (byte : Place) → after.held byte ≢ Some (Hand call.seat)
