@@ -7,3 +7,4 @@ pub mod Suits
 pub mod Looks
 pub mod Answers
 pub mod Runs
+pub mod Laws

@@ -15,25 +15,30 @@ use Rattle.machine.specs.Ranges.{part_of, region_range}
 abbrev pub some_part : Range → Option Holder → Option Holder → List Part
 some_part range from to = if range.bytes == 0 then [] else part_of range from to ∷ []
 
--- the bytes of a region that are in no granule of its record, behind them
-abbrev pub back_bytes : RegionRec → ℕ
-back_bytes region = region.region.bytes - (region.waste + region.granules * 8192)
+-- the bytes of a region before its granules, its granules, and the bytes behind them
+abbrev pub front_range : ℕ → RegionRec → Range
+front_range pool region = region_range pool region 0 region.waste
 
--- All bytes of a region in their order, from or to these holders: the waste in front, the granules, the waste behind. What has no
--- byte is no part.
-abbrev pub region_parts : ℕ → RegionRec → (Option Holder → Option Holder → Range → List Part) → Holder → List Part
-region_parts pool region part_from granules =
-    part_from (Some Waste) None (region_range pool region 0 region.waste)
-    ++ part_from (Some granules) None (region_range pool region region.waste (region.granules * 8192))
-    ++ part_from (Some Waste) None (region_range pool region (region.waste + region.granules * 8192) (back_bytes region))
+abbrev pub granules_range : ℕ → RegionRec → Range
+granules_range pool region = region_range pool region region.waste (region.granules * 8192)
+
+abbrev pub back_range : ℕ → RegionRec → Range
+back_range pool region =
+    region_range pool region (region.waste + region.granules * 8192) (region.region.bytes - (region.waste + region.granules * 8192))
 
 -- the parts of a region that comes: its granules to the seat's hand, all else to waste
 abbrev pub coming_parts : ℕ → ℕ → RegionRec → List Part
-coming_parts pool seat region = region_parts pool region (λ holder none range. some_part range none holder) (Hand seat)
+coming_parts pool seat region =
+    some_part (front_range pool region) None (Some Waste)
+    ++ some_part (granules_range pool region) None (Some (Hand seat))
+    ++ some_part (back_range pool region) None (Some Waste)
 
 -- the parts of a region that leaves: its granules from the seat's hand, all else from waste
 abbrev pub leaving_parts : ℕ → ℕ → RegionRec → List Part
-leaving_parts pool seat region = region_parts pool region (λ holder none range. some_part range holder none) (Hand seat)
+leaving_parts pool seat region =
+    some_part (front_range pool region) (Some Waste) None
+    ++ some_part (granules_range pool region) (Some (Hand seat)) None
+    ++ some_part (back_range pool region) (Some Waste) None
 
 -- no live region has a number that is the same modulo 64: each such number has one slot
 abbrev pub IsSlotFree : State → ℕ → Type 0
