@@ -1,2 +1,5 @@
 pub mod Shapes
 pub mod Steps
+pub mod Covers
+pub mod Runs
+pub mod RegionBytes
