@@ -3,3 +3,5 @@ pub mod Steps
 pub mod Covers
 pub mod Runs
 pub mod RegionBytes
+pub mod Moving
+pub mod Mallocs
