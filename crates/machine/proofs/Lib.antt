@@ -5,3 +5,6 @@ pub mod Runs
 pub mod RegionBytes
 pub mod Moving
 pub mod Mallocs
+pub mod Examples
+pub mod FirstMalloc
+pub mod Scans

@@ -1,5 +1,5 @@
 -- Ranges that are whole and apart, and parts that can be moved.
-use Rattle.std.proofs.Common.{◌≡◌, ℕ, ◌+◌, ◌*◌, ◌≤◌, inl, inr, List, [], ◌∷◌, true, All, arith}
+use Rattle.std.proofs.Common.{◌≡◌, ◌∙◌, ℕ, ◌+◌, ◌*◌, ◌≤◌, inl, inr, List, [], ◌∷◌, true, All, arith}
 use Rattle.std.specs.declared.option.Option.{Option}
 use Rattle.std.proofs.lemmas.Bool.{cases_Bool}
 use Rattle.std.proofs.lemmas.List.Elements.{All-nil, All-cons}
@@ -9,7 +9,7 @@ use Rattle.part_model.specs.declared.moves.Range.{Range}
 use Rattle.part_model.specs.declared.moves.Part.{Part}
 use Rattle.part_model.specs.Lawful.{is_lawful_pair}
 use Rattle.part_model.specs.Holding.{Holding, lies_in, IsApart, AreApart, IsWhole, AreWhole, CanMoveAll}
-use Rattle.part_model.proofs.RunLemmas.{lies_in-parts}
+use Rattle.part_model.proofs.RunLemmas.{lies_in-parts, lies_in-is, same_region-parts, same_region-is}
 use Rattle.machine.specs.Ranges.{Each, part_of}
 use Rattle.size_classes.specs.Classes.{class_size, class_objects}
 use Rattle.std.proofs.Math.Nat.{div-mul-le_self}
@@ -65,3 +65,22 @@ two_move seat held one other from to from' to' lawful lawful' there there' = (re
 pub objects_fit : (class : ℕ) → class_objects class * class_size class ≤ 16256
 unfolding class_objects
 objects_fit class = div-mul-le_self 16256 (class_size class)
+
+-- a range within another
+pub lies_within : (one other : Range) (byte : Place) → one.place.pool ≡ other.place.pool → one.place.region ≡ other.place.region →
+    other.place.offset ≤ one.place.offset → one.place.offset + one.bytes ≤ other.place.offset + other.bytes →
+    lies_in byte one ≡ true → lies_in byte other ≡ true
+lies_within one other byte pool region from ends inside =
+    let lies = lies_in-parts byte one inside in
+    let same = same_region-parts byte one.place lies.region in
+    let above = lies.from in
+    let below = lies.below in
+    lies_in-is byte other (same_region-is byte other.place (same.0 ∙ pool) (same.1 ∙ region)) (omega arith) (omega arith)
+
+-- no byte lies in a range of no bytes
+pub none_inside : (range : Range) (byte : Place) → range.bytes ≡ 0 → lies_in byte range ≡ true → ⊥
+none_inside range byte none inside =
+    let lies = lies_in-parts byte range inside in
+    let above = lies.from in
+    let below = lies.below in
+    omega arith

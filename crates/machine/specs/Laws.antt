@@ -1,9 +1,9 @@
 -- Laws of the partition machine's lawful moves and of its runs.
-use Rattle.std.specs.Prelude.{◌≡◌, ℕ, ◌==◌, Bool, true, false, List, All, Contains, Option, Some}
+use Rattle.std.specs.Prelude.{◌≡◌, ◌<◌, ℕ, ◌==◌, Bool, true, false, List, All, Contains, Option, Some}
 use Rattle.pool_types.specs.declared.values.Place.{Place}
 use Rattle.pool_types.specs.declared.policy.RegionRec.{RegionRec}
 use Rattle.part_model.specs.declared.holders.Holder.{Holder}
-use Rattle.part_model.specs.declared.holders.Holder.TheVariants.{Rest, Private, Object, Hand}
+use Rattle.part_model.specs.declared.holders.Holder.TheVariants.{Rest, Private, Object, Bin, Hand}
 use Rattle.part_model.specs.declared.moves.Range.{Range}
 use Rattle.part_model.specs.declared.moves.Part.{Part}
 use Rattle.part_model.specs.Holding.{lies_in, CanMoveAll}
@@ -11,9 +11,13 @@ use Rattle.part_model.specs.Totals.{has_holder, region_bytes, totals_of}
 use Rattle.part_model.specs.Laws.{KeepsOneHolder, AreApartFrom, IsPlaced, Follows, holders_of, sum_of, live_bytes}
 use Rattle.machine.specs.States.{Terms, State}
 use Rattle.machine.specs.Ranges.{region_range}
-use Rattle.machine.specs.Journal.{Entry, is_object, after_entry}
+use Rattle.machine.specs.Journal.{Entry, Look, is_object, after_entry}
 use Rattle.machine.specs.Lawful.{next_grant}
-use Rattle.machine.specs.Runs.{Event, Progress, no_progress, MayStep, after_events, IsRun}
+use Rattle.machine.specs.Looks.{first_bin, blocks_seen, Fits}
+use Rattle.machine.specs.Answers.{Call}
+use Rattle.machine.specs.Runs.{Event, Progress, no_progress, MayStep, AreLists, after_events, IsRun}
+use Rattle.machine.specs.Examples.{fixed_pool, first_malloc, malloc_in_vain}
+use Rattle.size_classes.specs.declared.Served.{Served}
 
 -- a step that may be made keeps exactly one holder a byte
 abbrev pub StepsKeepOne : Type 0
@@ -77,3 +81,22 @@ pub record AreRegionsBytes (terms : Terms) (state : State) : Type 0 where
 -- in a run the sum of the totals is the bytes of the regions, at any time
 abbrev pub RunsSum : Type 0
 RunsSum = (terms : Terms) (events : List Event) → IsRun terms events → AreRegionsBytes terms (after_events no_progress events).state
+
+-- two runs: an object is granted in the one, and refused in the other
+abbrev pub RunsExist : Type 0
+RunsExist = IsRun (fixed_pool 1048576) first_malloc × IsRun (fixed_pool 8192) malloc_in_vain
+
+-- a byte is in bins
+abbrev pub IsInBins : State → Range → Type 0
+IsInBins state range = (byte : Place) → lies_in byte range ≡ true → state.held byte ≡ Some Bin
+
+-- As long as no two calls of the pool were open at once, a look at all bins that can have a fitting block misses none: where no block in
+-- their lists fits, no bytes in a row that are all in bins do.
+abbrev pub LooksMissNone : Type 0
+LooksMissNone = (terms : Terms) (events : List Event) → IsRun terms events → (after_events no_progress events).overlapped ≡ false →
+    (call : Call) → Contains (after_events no_progress events).calls call →
+    (served : Served) (look : Look) → AreLists terms (after_events no_progress events) call.seat look.lists →
+    look.first ≡ first_bin served → look.last ≡ 511 →
+    ((block : Range) → Contains (blocks_seen look) block → Fits terms.limits (after_events no_progress events).state served block → ⊥) →
+    (range : Range) → 0 < range.bytes → IsInBins (after_events no_progress events).state range →
+    Fits terms.limits (after_events no_progress events).state served range → ⊥

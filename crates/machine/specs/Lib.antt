@@ -7,4 +7,5 @@ pub mod Suits
 pub mod Looks
 pub mod Answers
 pub mod Runs
+pub mod Examples
 pub mod Laws

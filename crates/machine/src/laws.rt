@@ -1,5 +1,5 @@
 //! Laws of the lawful moves and of runs. Each is what a function with an empty body ensures.
-ghost use Rattle.machine.specs.Laws.{StepsKeepOne, ApartStepsCommute, StepsFollow, GrantsAreFresh, RunsHaveOneHolder, RunsSum};
+ghost use Rattle.machine.specs.Laws.{StepsKeepOne, ApartStepsCommute, StepsFollow, GrantsAreFresh, RunsHaveOneHolder, RunsSum, RunsExist};
 
 /// A step keeps exactly one holder a byte: a byte of the pool has one afterwards, but where the step takes it out of the
 /// pool, and a byte that wasn't in the pool has one exactly where the step brings it in.
@@ -33,4 +33,9 @@ pub fn runs_have_one_holder()
 /// bytes with a holder as its record says.
 pub fn runs_sum_to_their_regions()
     ensures { RunsSum }
+{}
+
+/// There are runs: one in which an object is granted, and one in which it is refused.
+pub fn runs_exist()
+    ensures { RunsExist }
 {}
