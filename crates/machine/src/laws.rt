@@ -1,5 +1,5 @@
 //! Laws of the lawful moves and of runs. Each is what a function with an empty body ensures.
-ghost use Rattle.machine.specs.Laws.{StepsKeepOne, ApartStepsCommute, StepsFollow, GrantsAreFresh, RunsHaveOneHolder, RunsSum, RunsExist};
+ghost use Rattle.machine.specs.Laws.{StepsKeepOne, ApartStepsCommute, StepsFollow, GrantsAreFresh, RunsHaveOneHolder, RunsSum, RunsExist, LooksMissNone};
 
 /// A step keeps exactly one holder a byte: a byte of the pool has one afterwards, but where the step takes it out of the
 /// pool, and a byte that wasn't in the pool has one exactly where the step brings it in.
@@ -38,4 +38,11 @@ pub fn runs_sum_to_their_regions()
 /// There are runs: one in which an object is granted, and one in which it is refused.
 pub fn runs_exist()
     ensures { RunsExist }
+{}
+
+/// As long as no two calls of the pool were open at once, a scan misses no room: where no block fits in the lists of the
+/// bins that it looks at, no bytes in a row that are all in bins fit. So a null for want of a fitting block isn't given too
+/// early.
+pub fn looks_miss_none()
+    ensures { LooksMissNone }
 {}
