@@ -1,5 +1,5 @@
 -- The two short runs are runs.
-use Rattle.std.proofs.Common.{◌≡◌, ◌≢◌, [], Some, None, Bool, true, false, refl, arith, lit<, lit≤}
+use Rattle.std.proofs.Common.{◌∷◌, inl, ◌≡◌, ◌≢◌, [], Some, None, Bool, true, false, refl, arith, lit<, lit≤}
 use Rattle.std.specs.Prelude.{Contains, if◌then◌else◌}
 use Rattle.std.specs.declared.option.Option.{Option}
 use Rattle.pool_types.specs.declared.values.Place.{Place}
@@ -41,7 +41,8 @@ scrap_is_new = record {
   aligned = refl;
   inside = lit≤ tt;
   ends = lit≤ tt;
-  even = λ some. absurd (omega arith);
+  most = inl refl;
+  right = λ some. absurd (omega arith);
   within = lit< tt;
   apart = λ other live. absurd (none_in other live);
 }
@@ -106,11 +107,17 @@ scrap_refuses = record {
       (
         Small 0,
         eight_is_small,
-        record {
-          rest = λ slab kept. absurd (none_in slab kept.0.0);
-          private = λ slab kept. absurd (none_in slab kept.0.0);
-          stored = scrap_held (λ holder. holder ≢ Some (SlabCache 0)) (λ e. cc) (λ e. cc);
-        },
+        (
+          record {
+            rest = λ byte own. absurd (none_in own.0 own.1.0.0);
+            private = λ byte own. absurd (none_in own.0 own.1.0.0);
+            stored = scrap_held (λ holder. holder ≢ Some (SlabCache 0)) (λ e. cc) (λ e. cc);
+          },
+          λ alone. record {
+            public = λ byte own. absurd (none_in own.0 own.1.0.0);
+            orphan = λ slab kept. absurd (none_in slab kept.0.0);
+          },
+        ),
       ),
     ),
     record {
@@ -118,10 +125,10 @@ scrap_refuses = record {
         refl,
         record {
           accepted = record { sound = refl; numbers = λ e. absurd (omega arith); fits = λ granules alignment large. absurd (small_no_block (served_plain_at 8) 0 granules alignment eight_is_small large) };
-          earlier = [];
+          earlier = record { state = nothing_yet; entry = step_of (coming_parts 0 0 scrap) [] (Some scrap) Nothing_seen None } ∷ [];
           served = Small 0;
           seen = 0;
-          vain = record { later = _; steps = refl; is = eight_is_small; vain = (refl, lit≤ tt, λ block member. absurd (none_in block member), (0, (refl, refl), refl)) };
+          vain = record { later = _; steps = refl; still = refl; is = eight_is_small; vain = (refl, lit≤ tt, λ block member. absurd (none_in block member), (0, (refl, refl), refl)) };
           found = (refl, lit< tt, refl, refl, refl);
           drained = λ alone. record {
             queue = scrap_held (λ holder. holder ≢ Some Queue) (λ e. cc) (λ e. cc);
@@ -131,6 +138,7 @@ scrap_refuses = record {
         (refl, refl),
       );
       no_hand = scrap_held (λ holder. holder ≢ Some (Hand 0)) (λ e. cc) (λ e. cc);
+      no_slab = λ slab kept. absurd (none_in slab kept.0);
     },
   );
 }

@@ -1,5 +1,5 @@
 -- The first malloc is a run.
-use Rattle.std.proofs.Common.{◌≡◌, ◌≢◌, ◌+◌, ◌<◌, ◌≤◌, inl, inr, [], ◌∷◌, Some, None, Bool, true, false, refl, sym, ◌∙◌, ap, arith, lit<, lit≤}
+use Rattle.std.proofs.Common.{Contains, arith, zero, suc, ◌≡◌, ◌≢◌, ◌+◌, ◌<◌, ◌≤◌, inl, inr, [], ◌∷◌, Some, None, Bool, true, false, refl, sym, ◌∙◌, ap, arith, lit<, lit≤}
 use Rattle.std.specs.Prelude.{if◌then◌else◌}
 use Rattle.std.proofs.lemmas.Bool.{cases_Bool, cases_lt}
 use Rattle.pool_types.specs.declared.values.Place.{Place}
@@ -10,7 +10,8 @@ use Rattle.part_model.specs.Holding.{lies_in}
 use Rattle.part_model.proofs.RunLemmas.{lies_in-parts, lies_in-is}
 use Rattle.size_classes.specs.Classes.{class_size, class_objects}
 use Rattle.size_classes.specs.Served.{served_plain_at}
-use Rattle.machine.specs.States.{nothing_yet}
+use Rattle.pool_types.specs.declared.rows.Keeper.TheVariants.{Seat, Hand as InHand}
+use Rattle.machine.specs.States.{Slab, nothing_yet}
 use Rattle.machine.specs.Ranges.{part_of, parts_of, region_range, head_range, objects_range, object_range, behind_object}
 use Rattle.machine.specs.Regions.{IsNewRegion, coming_parts, granules_range}
 use Rattle.machine.specs.Journal.{Enters, Nothing_seen}
@@ -53,7 +54,8 @@ mebibyte_is_new = record {
   aligned = refl;
   inside = lit≤ tt;
   ends = lit≤ tt;
-  even = λ some. refl;
+  most = inl refl;
+  right = λ some. refl;
   within = lit< tt;
   apart = λ other live. absurd (none_in other live);
 }
@@ -151,6 +153,11 @@ none_in_hand byte =
     by_tests false false false true none is = none refl refl refl refl
     by_tests false false false false none is = cc
 
+-- the slab is kept by the seat
+pub kept_by_seat : (slab : Slab) → Contains (first_slab ∷ []) slab → slab.keeper ≡ InHand 0 → ⊥
+kept_by_seat slab (zero, below, is) kept = (let e : Seat 0 ≡ InHand 0 = ap (λ (s : Slab). s.keeper) is ∙ kept in cc)
+kept_by_seat slab (suc k, below, is) kept = absurd (omega (arith, below))
+
 pub grant_step : MayStep (fixed_pool 1048576) after_slab
     (step_of (part_of (object_range first_slab 0) (Some Rest) (Some (Object (record { seat = 0; number = 1 }))) ∷ []) [] None Nothing_seen
     (Some (Got (record { pool = 0; region = 0; offset = 16376 }) 8 (record { seat = 0; number = 1 }))))
@@ -176,6 +183,7 @@ grant_step = record {
         | inl inside ↦ (let is = ap (λ (b : Bool). if b then Some (Object (record { seat = 0; number = 1 })) else after_slab.state.held byte) inside in λ hand. (let e : Some (Object (record { seat = 0; number = 1 })) ≡ Some (Hand 0) = sym is ∙ hand in cc))
         | inr outside ↦ (let is = ap (λ (b : Bool). if b then Some (Object (record { seat = 0; number = 1 })) else after_slab.state.held byte) outside in λ hand. none_in_hand byte (sym is ∙ hand))
       ];
+      no_slab = λ slab kept. kept_by_seat slab kept.0 kept.1;
     },
   );
 }

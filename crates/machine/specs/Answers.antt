@@ -14,7 +14,7 @@ use Rattle.pool_types.specs.declared.values.Found.{Found}
 use Rattle.pool_types.specs.declared.values.Found.TheVariants.{NoPlace, NoGrant, Other}
 use Rattle.pool_types.specs.declared.policy.Limits.{Limits}
 use Rattle.pool_types.specs.declared.policy.RegionRec.{RegionRec}
-use Rattle.pool_types.specs.declared.rows.Keeper.TheVariants.{Seat}
+use Rattle.pool_types.specs.declared.rows.Keeper.TheVariants.{Seat, Hand as InHand}
 use Rattle.part_model.specs.declared.holders.Holder.{Holder}
 use Rattle.part_model.specs.declared.holders.Holder.TheVariants.{Object, SlabCache, Cached, Queue, Hand}
 use Rattle.part_model.specs.declared.moves.Part.{Part}
@@ -150,11 +150,12 @@ granules_for (Small class) = 2
 granules_for (Large granules alignment) = granules
 granules_for Bad = 0
 
--- These steps, the last of the call, looked at all bins that can have a fitting block, and none fitted. `served` is what the request
--- is served as, and `seen` is how many blocks there were.
+-- The call's last steps moved nothing, and looked at all bins that can have a fitting block, and none fitted. `served` is what the
+-- request is served as, and `seen` is how many blocks there were.
 pub record LooksInVain (limits : Limits) (call : Call) (earlier : List Moment) (served : Served) (seen : ℕ) : Type 0 where
   pub later : List Moment
   pub steps : call.moments ≡ earlier ++ later
+  pub still : moved_parts later ≡ []
   pub is : served_for call.request ≡ served
   pub vain : AreInVain limits served (first_bin served) (flat_map (λ moment. look_of moment.state moment.entry.seen) later) seen
 
@@ -322,7 +323,8 @@ IsAnswerTo terms call after (Identify place) answer = IsIdentifyAnswer terms.lim
 IsAnswerTo terms call after Exit answer = IsExitAnswer call after answer
 
 -- The answer is legal for a call with these steps, in the state after them: it is one to what was asked, and the seat has nothing in
--- hand any more.
+-- hand any more, neither bytes nor a slab that it was about to adopt.
 pub record IsLegal (terms : Terms) (call : Call) (after : State) (answer : Answer) : Type 0 where
   pub answers : IsAnswerTo terms call after call.request answer
   pub no_hand : (byte : Place) → after.held byte ≢ Some (Hand call.seat)
+  pub no_slab : (slab : Slab) → IsKept after (InHand call.seat) slab → ⊥

@@ -5,8 +5,8 @@ use Rattle.pool_types.specs.declared.values.Request.{Request}
 use Rattle.pool_types.specs.declared.values.Request.TheVariants.{Malloc, Aligned, Realloc, AlignedRealloc, Free, Msize, Identify, Exit}
 use Rattle.pool_types.specs.declared.policy.Limits.{Limits}
 use Rattle.pool_types.specs.declared.policy.RegionRec.{RegionRec}
-use Rattle.pool_types.specs.declared.rows.Keeper.TheVariants.{Seat}
-use Rattle.part_model.specs.declared.holders.Holder.TheVariants.{Rest, Private, SlabCache}
+use Rattle.pool_types.specs.declared.rows.Keeper.TheVariants.{Seat, Orphan}
+use Rattle.part_model.specs.declared.holders.Holder.TheVariants.{Rest, Private, Public, SlabCache}
 use Rattle.part_model.specs.declared.moves.Range.{Range}
 use Rattle.part_model.specs.Holding.{lies_in}
 use Rattle.size_classes.specs.declared.Served.{Served}
@@ -78,8 +78,18 @@ AreInVain limits served bin (looked ∷ rest) seen =
     × ((block : Range) → Contains (blocks_seen looked.look) block → Fits limits looked.state served block → ⊥)
     × ((more : ℕ) × AreInVain limits served (looked.look.last + 1) rest more × (seen ≡ length (blocks_seen looked.look) + more))
 
+-- a byte of a slab of the class that the seat keeps
+abbrev pub IsOwnByte : State → ℕ → ℕ → Place → Type 0
+IsOwnByte state seat class byte = (slab : Slab) × IsKeptOf state class (Seat seat) slab × (lies_in byte (slab_range slab.place) ≡ true)
+
 -- no slab of the class that the seat keeps has an object to give, and it has no slab in its slab cache
 pub record NoneFree (state : State) (seat class : ℕ) : Type 0 where
-  pub rest : (slab : Slab) → IsKeptOf state class (Seat seat) slab → (byte : Place) → lies_in byte (slab_range slab.place) ≡ true → state.held byte ≢ Some Rest
-  pub private : (slab : Slab) → IsKeptOf state class (Seat seat) slab → (byte : Place) → lies_in byte (slab_range slab.place) ≡ true → state.held byte ≢ Some Private
+  pub rest : (byte : Place) → IsOwnByte state seat class byte → state.held byte ≢ Some Rest
+  pub private : (byte : Place) → IsOwnByte state seat class byte → state.held byte ≢ Some Private
   pub stored : (byte : Place) → state.held byte ≢ Some (SlabCache seat)
+
+-- no object of a slab of the class that the seat keeps was freed by another seat and not yet taken back, and no slab of the class is an
+-- orphan
+pub record NoneWaits (state : State) (seat class : ℕ) : Type 0 where
+  pub public : (byte : Place) → IsOwnByte state seat class byte → state.held byte ≢ Some Public
+  pub orphan : (slab : Slab) → IsKeptOf state class Orphan slab → ⊥

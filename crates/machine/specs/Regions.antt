@@ -60,20 +60,6 @@ pub record IsApartRegion (one other : RegionRec) : Type 0 where
   pub addresses : meets one.region other.region ≡ false
   pub indices : (one.first + one.granules < other.first) ⊎ (other.first + other.granules < one.first)
 
--- the region can come
-pub record IsNewRegion (terms : Terms) (state : State) (region : RegionRec) : Type 0 where
-  pub number : IsNextNumber state region.number
-  pub below : region.number < 4194304
-  -- its granules begin at the first address that is a multiple of 8192, and lie in it
-  pub front : region.waste < 8192
-  pub aligned : (region.region.base + region.waste) % 8192 ≡ 0
-  pub inside : region.waste + region.granules * 8192 ≤ region.region.bytes
-  pub ends : region.region.base + region.region.bytes ≤ 2 ^ 64 - 1
-  -- an even index stands for an address that is a multiple of 16384
-  pub even : 0 < region.granules → (region.region.base + region.waste) / 8192 % 2 ≡ region.first % 2
-  pub within : region.first + region.granules < terms.limits.span
-  pub apart : (other : RegionRec) → Contains state.regions other → IsApartRegion other region
-
 -- no live region takes the granule index
 abbrev pub IsIndexFree : State → ℕ → Type 0
 IsIndexFree state index = (region : RegionRec) → Contains state.regions region → (index < region.first) ⊎ (region.first + region.granules < index)
@@ -83,6 +69,34 @@ pub record HasFreeRun (terms : Terms) (state : State) (indices : ℕ) : Type 0 w
   pub from : ℕ
   pub within : from + indices ≤ terms.limits.span
   pub free : (index : ℕ) → from ≤ index → index < from + indices → IsIndexFree state index
+
+-- how many granules fit into the region behind the waste in front
+abbrev pub whole_granules : RegionRec → ℕ
+whole_granules region = (region.region.bytes - region.waste) / 8192
+
+-- the granule index of the first granule is even where its address is a multiple of 16384, and else odd
+abbrev pub IsRightStart : RegionRec → ℕ → Type 0
+IsRightStart region first = (region.region.base + region.waste) / 8192 % 2 ≡ first % 2
+
+-- there is a place in the span for all granules of the region and its wall
+pub record HasRoom (terms : Terms) (state : State) (region : RegionRec) : Type 0 where
+  pub run : HasFreeRun terms state (whole_granules region + 1)
+  pub right : IsRightStart region run.from
+
+-- the region can come
+pub record IsNewRegion (terms : Terms) (state : State) (region : RegionRec) : Type 0 where
+  pub number : IsNextNumber state region.number
+  pub below : region.number < 4194304
+  -- its granules begin at the first address that is a multiple of 8192, and lie in it
+  pub front : region.waste < 8192
+  pub aligned : (region.region.base + region.waste) % 8192 ≡ 0
+  pub inside : region.waste + region.granules * 8192 ≤ region.region.bytes
+  pub ends : region.region.base + region.region.bytes ≤ 2 ^ 64 - 1
+  -- all that fit into it are its granules, but where the span has no place for so many
+  pub most : (region.granules ≡ whole_granules region) ⊎ (HasRoom terms state region → ⊥)
+  pub right : 0 < region.granules → IsRightStart region region.first
+  pub within : region.first + region.granules < terms.limits.span
+  pub apart : (other : RegionRec) → Contains state.regions other → IsApartRegion other region
 
 -- the longest run of free granule indices has so many
 pub record IsLongestRun (terms : Terms) (state : State) (indices : ℕ) : Type 0 where

@@ -17,7 +17,7 @@ use Rattle.machine.specs.States.{Terms, State, nothing_yet}
 use Rattle.machine.specs.Ranges.{Each, AreDisjoint, IsGranules, lies_in_parts}
 use Rattle.machine.specs.Journal.{Entry, Sight, Nothing_seen, Bins_seen, Callback_failed, after_entry}
 use Rattle.machine.specs.Lawful.{IsLawful, IsCut, large_head_range, large_object_range}
-use Rattle.machine.specs.Looks.{served_for, NoneFree}
+use Rattle.machine.specs.Looks.{served_for, NoneFree, NoneWaits}
 use Rattle.machine.specs.Answers.{Call, AtStep, granted, moved_parts, IsLegal}
 
 -- What happens in a pool: a seat begins a call, a seat makes a step, a reset begins and ends, the pool's end begins. A whole call is
@@ -142,9 +142,10 @@ pub record AreLists (terms : Terms) (progress : Progress) (seat : ℕ) (lists : 
   pub joined : progress.overlapped ≡ false → (one other : Range) → Contains lists one → Contains lists other → Touches one other → ⊥
 
 -- A call scans the bins only where it has to. For a slab no slab of the class that its seat keeps has an object to give, and its slab
--- cache is empty. For a block the cache was empty of blocks of so many granules, now or at a step before.
+-- cache is empty; and where no other seat was in a call since it began, no freed object and no orphan of the class waits for it. For a
+-- block the cache was empty of blocks of so many granules, now or at a step before.
 abbrev pub HasToScan : State → Call → Served → Type 0
-HasToScan state call (Small class) = NoneFree state call.seat class
+HasToScan state call (Small class) = NoneFree state call.seat class × (call.alone ≡ true → NoneWaits state call.seat class)
 HasToScan state call (Large granules alignment) =
     ((byte : Place) → state.held byte ≢ Some (Cached granules)) ⊎ AtStep (λ earlier. (byte : Place) → earlier.held byte ≢ Some (Cached granules)) call.moments
 HasToScan state call Bad = ⊥
