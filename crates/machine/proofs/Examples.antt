@@ -37,6 +37,7 @@ scrap_is_new = record {
     least = λ other least below free. omega arith;
   };
   below = lit< tt;
+  only = λ fixed. refl;
   front = lit< tt;
   aligned = refl;
   inside = lit≤ tt;

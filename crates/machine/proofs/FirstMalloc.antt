@@ -1,5 +1,5 @@
 -- The first malloc is a run.
-use Rattle.std.proofs.Common.{Contains, arith, zero, suc, ◌≡◌, ◌≢◌, ◌+◌, ◌<◌, ◌≤◌, inl, inr, [], ◌∷◌, Some, None, Bool, true, false, refl, sym, ◌∙◌, ap, arith, lit<, lit≤}
+use Rattle.std.proofs.Common.{Contains, zero, suc, ◌≡◌, ◌≢◌, ◌+◌, ◌<◌, ◌≤◌, inl, inr, [], ◌∷◌, Some, None, Bool, true, false, refl, sym, ◌∙◌, ap, arith, lit<, lit≤}
 use Rattle.std.specs.Prelude.{if◌then◌else◌}
 use Rattle.std.proofs.lemmas.Bool.{cases_Bool, cases_lt}
 use Rattle.pool_types.specs.declared.values.Place.{Place}
@@ -50,6 +50,7 @@ mebibyte_is_new = record {
     least = λ other least below free. omega arith;
   };
   below = lit< tt;
+  only = λ fixed. refl;
   front = lit< tt;
   aligned = refl;
   inside = lit≤ tt;

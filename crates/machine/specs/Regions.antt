@@ -1,5 +1,5 @@
 -- How regions lie in the pool's span, what number the next one has, and of which parts a region is.
-use Rattle.std.specs.Prelude.{◌≡◌, ◌≢◌, ◌⊎◌, ℕ, ◌+◌, ◌-◌, ◌*◌, ◌/◌, ◌%◌, ◌^◌, ◌<◌, ◌≤◌, ◌==◌, max, false, if◌then◌else◌, List, [], ◌∷◌, ◌++◌, Contains, Option, Some, None}
+use Rattle.std.specs.Prelude.{◌≡◌, ◌≢◌, ◌⊎◌, ℕ, ◌+◌, ◌-◌, ◌*◌, ◌/◌, ◌%◌, ◌^◌, ◌<◌, ◌≤◌, ◌==◌, max, true, false, if◌then◌else◌, List, [], ◌∷◌, ◌++◌, Contains, Option, Some, None}
 use Rattle.pool_types.specs.declared.policy.RegionRec.{RegionRec}
 use Rattle.pool_types.specs.Policies.{align_up, granularity_of}
 use Rattle.pool_types.specs.Regions.{meets}
@@ -87,6 +87,8 @@ pub record HasRoom (terms : Terms) (state : State) (region : RegionRec) : Type 0
 pub record IsNewRegion (terms : Terms) (state : State) (region : RegionRec) : Type 0 where
   pub number : IsNextNumber state region.number
   pub below : region.number < 4194304
+  -- a fixed pool gets one region and no more
+  pub only : terms.policy.fixed ≡ true → state.next ≡ 0
   -- its granules begin at the first address that is a multiple of 8192, and lie in it
   pub front : region.waste < 8192
   pub aligned : (region.region.base + region.waste) % 8192 ≡ 0
