@@ -302,3 +302,18 @@ runs_have_one_holder terms events run =
           holders_of-is (after_events no_progress events).state.held byte ((after_events no_progress events).state.held byte) refl
           ∙ ap (λ (b : Bool). if b then 1 else 0) none;
     }
+
+-- a run goes on with another, and what a run begins with is one
+pub run-append : (terms : Terms) (progress : Progress) (first second : List Event) → IsRunFrom terms progress first → IsRunFrom terms (after_events progress first) second →
+    IsRunFrom terms progress (first ++ second)
+run-append terms progress [] second run more = more
+run-append terms progress (event ∷ events) second (may, run) more = (may, run-append terms (after_event progress event) events second run more)
+
+pub run-front : (terms : Terms) (progress : Progress) (first second : List Event) → IsRunFrom terms progress (first ++ second) → IsRunFrom terms progress first
+run-front terms progress [] second run = tt
+run-front terms progress (event ∷ events) second (may, run) = (may, run-front terms (after_event progress event) events second run)
+
+-- the progress after two lists of events
+pub after_events-append : (progress : Progress) (first second : List Event) → after_events progress (first ++ second) ≡ after_events (after_events progress first) second
+after_events-append progress [] second = refl
+after_events-append progress (event ∷ events) second = after_events-append (after_event progress event) events second

@@ -43,9 +43,13 @@ pub record Progress : Type 0 where
   pub overlapped : Bool
   pub phase : Phase
 
+-- no call is open, and no two ever were at once: so it is between whole calls
+abbrev pub at_rest : State → Progress
+at_rest state = record { state = state; calls = []; overlapped = false; phase = Serving }
+
 -- nothing has happened
 abbrev pub no_progress : Progress
-no_progress = record { state = nothing_yet; calls = []; overlapped = false; phase = Serving }
+no_progress = at_rest nothing_yet
 
 -- the list has a member
 abbrev pub has_any : {X : Type 0} → List X → Bool
