@@ -1,8 +1,7 @@
 -- Lists of runs: what they say of a byte, as pieces are added and taken out.
-use Rattle.std.proofs.Common.{◌≡◌, ℕ, ◌+◌, ◌<◌, ◌≤◌, List, [], ◌∷◌, ◌++◌, Some, None, Bool, true, false, ◌&&◌, not, ◌==◌, eq-eqb, refl, sym, ◌∙◌, ap, arith, take, drop, get_or, length, nat_le, nat_lt}
+use Rattle.std.proofs.Common.{◌≡◌, ℕ, ◌+◌, ◌<◌, ◌≤◌, List, [], ◌∷◌, ◌++◌, Some, None, Bool, true, false, ◌&&◌, not, refl, sym, ◌∙◌, ap, arith, take, drop, get_or, length, nat_le, nat_lt}
 use Rattle.std.specs.Prelude.{if◌then◌else◌}
 use Rattle.std.proofs.lemmas.List.{take_more, drop_more}
-use Rattle.std.proofs.lemmas.Bool.{and_parts, and_from, eqb-true, leb-true, ltb-true, le-leb, lt-ltb}
 use Rattle.std.specs.declared.option.Option.{Option}
 use Rattle.pool_types.specs.declared.values.Place.{Place}
 use Rattle.part_model.specs.declared.holders.Holder.{Holder}
@@ -35,33 +34,6 @@ cover-one run byte = by_test (lies_in byte run.range)
     by_test true = refl
     by_test false = refl
 
--- what a test of the region tells, and what shows it
-pub same_region-parts : (one other : Place) → same_region one other ≡ true → (one.pool ≡ other.pool) × (one.region ≡ other.region)
-same_region-parts one other same =
-    let both = and_parts (one.pool == other.pool) (one.region == other.region) same in
-    (eqb-true one.pool other.pool both.0, eqb-true one.region other.region both.1)
-
-pub same_region-is : (one other : Place) → one.pool ≡ other.pool → one.region ≡ other.region → same_region one other ≡ true
-same_region-is one other pool region =
-    and_from (one.pool == other.pool) (one.region == other.region) (eq-eqb one.pool other.pool pool) (eq-eqb one.region other.region region)
-
--- what it tells that a byte lies in a range, and what shows it
-pub record LiesIn (byte : Place) (range : Range) : Type 0 where
-  pub region : same_region byte range.place ≡ true
-  pub from : range.place.offset ≤ byte.offset
-  pub below : byte.offset < range.place.offset + range.bytes
-
-pub lies_in-parts : (byte : Place) (range : Range) → lies_in byte range ≡ true → LiesIn byte range
-lies_in-parts byte range inside =
-    let outer = and_parts (same_region byte range.place && nat_le range.place.offset byte.offset) (nat_lt byte.offset (range.place.offset + range.bytes)) inside in
-    let inner = and_parts (same_region byte range.place) (nat_le range.place.offset byte.offset) outer.0 in
-    record { region = inner.0; from = leb-true _ _ inner.1; below = ltb-true _ _ outer.1 }
-
-pub lies_in-is : (byte : Place) (range : Range) → same_region byte range.place ≡ true → range.place.offset ≤ byte.offset → byte.offset < range.place.offset + range.bytes → lies_in byte range ≡ true
-lies_in-is byte range region from below =
-    and_from (same_region byte range.place && nat_le range.place.offset byte.offset) (nat_lt byte.offset (range.place.offset + range.bytes))
-    (and_from (same_region byte range.place) (nat_le range.place.offset byte.offset) region (le-leb _ _ from)) (lt-ltb _ _ below)
-
 -- one run more, which has both bytes or neither
 pub alike_more : (runs : List Run) (i : ℕ) (d : Run) (byte other : Place) → i < length runs →
     holder_at (take i runs) other ≡ holder_at (take i runs) byte → lies_in other (get_or runs i d).range ≡ lies_in byte (get_or runs i d).range →
@@ -72,13 +44,6 @@ alike_more runs i d byte other below so_far now =
     ∙ ap (λ h. first_of h (holder_at (get_or runs i d ∷ []) other)) so_far
     ∙ ap (λ (b : Bool). first_of (holder_at (take i runs) byte) (if b then Some (get_or runs i d).holder else None)) now
     ∙ sym (holder_at-append (take i runs) (get_or runs i d ∷ []) byte) ∙ ap (λ xs. holder_at xs byte) (sym more)
-
--- a byte by its region and its offset
-pub place_is : (byte place : Place) → same_region byte place ≡ true → byte ≡ record { pool = place.pool; region = place.region; offset = byte.offset }
-place_is byte place same =
-    let both = same_region-parts byte place same in
-    let at : ℕ → ℕ → Place = λ p r. record { pool = p; region = r; offset = byte.offset } in
-    ap (λ p. at p byte.region) both.0 ∙ ap (λ r. at place.pool r) both.1
 
 -- what of a run lies outside of a range is what lies before it and what lies behind it
 pub pieces_join : (old : Option Holder) (run : Run) (range : Range) (byte : Place) →

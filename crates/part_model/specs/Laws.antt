@@ -1,14 +1,22 @@
 -- Laws of moves and of totals, for any holding and any move.
-use Rattle.std.specs.Prelude.{◌≡◌, ◌↔◌, ℕ, ◌+◌, ◌<◌, ◌^◌, Bool, true, false, ◌&&◌, ◌||◌, not, if◌then◌else◌, List, [], ◌∷◌, All, sum_by, count_by}
+use Rattle.std.specs.Prelude.{Result, Err, ◌≢◌, ◌≡◌, ◌↔◌, ℕ, ◌+◌, ◌<◌, ◌^◌, Bool, true, false, ◌&&◌, ◌||◌, not, if◌then◌else◌, List, [], ◌∷◌, All, sum_by, count_by}
 use Rattle.std.specs.declared.option.Option.{Option}
 use Rattle.pool_types.specs.declared.values.Place.{Place}
 use Rattle.part_model.specs.declared.holders.Holder.{Holder}
 use Rattle.part_model.specs.declared.holders.Kind.{Kind}
 use Rattle.part_model.specs.declared.holders.Kind.TheVariants.{Waste, Head, Rest, Private, Public, Object, LargeHead, SlabCache, Cached, Bin, Queue, Hand}
 use Rattle.part_model.specs.declared.moves.Part.{Part}
+use Rattle.part_model.specs.declared.partition.ApplyError.{ApplyError}
+use Rattle.part_model.specs.declared.partition.ApplyError.TheVariants.{NoMemory}
 use Rattle.part_model.specs.declared.totals.Totals.{Totals}
+use Rattle.part_model.specs.Apply.{Answers}
 use Rattle.part_model.specs.Holding.{Holding, lies_in, after_parts, IsApartFromAll, AreApart, AreWhole, CanMoveAll}
 use Rattle.part_model.specs.Totals.{is_at, has_holder, is_region, regions_held, region_bytes, sum_regions, is_live, totals_of}
+
+-- A holding and a move determine what the move answers, but for want of memory.
+abbrev pub OneAnswer : Type 0
+OneAnswer = (seat : ℕ) (held : Holding) (parts : List Part) (one other : Result Unit ApplyError) →
+    Answers seat parts held one → Answers seat parts held other → one ≢ Err NoMemory → other ≢ Err NoMemory → one ≡ other
 
 -- all kinds of holders
 abbrev pub kinds : List Kind
@@ -87,15 +95,18 @@ pub record Follows (old new : Totals) (parts : List Part) : Type 0 where
 
 -- the totals follow a lawful move
 abbrev pub TotalsFollow : Type 0
-TotalsFollow = (seat : ℕ) (held : Holding) (parts : List Part) → AreApart parts → AreWhole parts → All IsPlaced parts → CanMoveAll seat held parts →
+TotalsFollow = (seat : ℕ) (held : Holding) (parts : List Part) →
+    AreApart parts → AreWhole parts → All IsPlaced parts → CanMoveAll seat held parts →
     Follows (totals_of held) (totals_of (after_parts held parts)) parts
 
 -- the bytes of the parts in a region that come from a holder, and of those that go to one
 abbrev pub region_from : ℕ → ℕ → List Part → ℕ
-region_from pool region parts = sum_by (λ part. if is_region pool region part.range then (if has_holder part.from then part.range.bytes else 0) else 0) parts
+region_from pool region parts =
+    sum_by (λ part. if is_region pool region part.range then (if has_holder part.from then part.range.bytes else 0) else 0) parts
 
 abbrev pub region_to : ℕ → ℕ → List Part → ℕ
-region_to pool region parts = sum_by (λ part. if is_region pool region part.range then (if has_holder part.to then part.range.bytes else 0) else 0) parts
+region_to pool region parts =
+    sum_by (λ part. if is_region pool region part.range then (if has_holder part.to then part.range.bytes else 0) else 0) parts
 
 -- the part moves bytes within the pool
 abbrev pub IsWithin : Part → Type 0
@@ -105,14 +116,17 @@ IsWithin part = (has_holder part.from ≡ true) × (has_holder part.to ≡ true)
 -- the pool leaves the number of live regions, and a move of one region's bytes changes that number by that region alone.
 pub record RegionsFollow (old new : Holding) (parts : List Part) : Type 0 where
   pub bytes : (pool region : ℕ) →
-      region_bytes has_holder new pool region + region_from pool region parts ≡ region_bytes has_holder old pool region + region_to pool region parts
+      region_bytes has_holder new pool region + region_from pool region parts
+      ≡ region_bytes has_holder old pool region + region_to pool region parts
   pub within : All IsWithin parts → regions_held new ≡ regions_held old
   pub of_one : (pool region : ℕ) → pool < 2 ^ 16 → region < 2 ^ 32 → All (λ part. is_region pool region part.range ≡ true) parts →
-      regions_held new + (if is_live old pool region then 1 else 0) ≡ regions_held old + (if is_live new pool region then 1 else 0)
+      regions_held new + (if is_live old pool region then 1 else 0)
+      ≡ regions_held old + (if is_live new pool region then 1 else 0)
 
 -- the live regions follow a lawful move
 abbrev pub LiveFollow : Type 0
-LiveFollow = (seat : ℕ) (held : Holding) (parts : List Part) → AreApart parts → AreWhole parts → CanMoveAll seat held parts →
+LiveFollow = (seat : ℕ) (held : Holding) (parts : List Part) →
+    AreApart parts → AreWhole parts → CanMoveAll seat held parts →
     RegionsFollow held (after_parts held parts) parts
 
 -- the bytes at all kinds of holders
@@ -122,7 +136,8 @@ sum_of t =
 
 -- the bytes of the live regions
 abbrev pub live_bytes : Holding → ℕ
-live_bytes held = sum_regions (λ pool region. if is_live held pool region then region_bytes has_holder held pool region else 0)
+live_bytes held =
+    sum_regions (λ pool region. if is_live held pool region then region_bytes has_holder held pool region else 0)
 
 -- the totals of all kinds sum to the bytes of the live regions
 abbrev pub TotalsSum : Type 0

@@ -40,7 +40,8 @@ is_before byte range = not (same_region byte range.place && nat_le range.place.o
 -- the byte is of the range's region, and lies behind it
 abbrev pub is_behind : Place → Range → Bool
 is_behind byte range =
-    same_region byte range.place && nat_le range.place.offset byte.offset && not (nat_lt byte.offset (range.place.offset + range.bytes))
+    same_region byte range.place && nat_le range.place.offset byte.offset
+    && not (nat_lt byte.offset (range.place.offset + range.bytes))
 
 -- the run is whole, and its place's numbers have 16 and 32 bits
 pub record IsSound (run : Run) : Type 0 where
@@ -60,13 +61,15 @@ pub record AreRuns (runs : List Run) : Type 0 where
 -- from the byte to below an offset, each byte of its region has the same holder
 abbrev pub IsAlike : List Run → Place → ℕ → Type 0
 IsAlike runs byte end =
-    (other : Place) → same_region other byte ≡ true → byte.offset ≤ other.offset → other.offset < end → holder_at runs other ≡ holder_at runs byte
+    (other : Place) → same_region other byte ≡ true → byte.offset ≤ other.offset → other.offset < end →
+    holder_at runs other ≡ holder_at runs byte
 
 -- the first byte of the range that isn't at `wanted`
 pub record IsFirstElsewhere (runs : List Run) (range : Range) (wanted : Option Holder) (byte : Place) : Type 0 where
   pub inside : lies_in byte range ≡ true
   pub elsewhere : holder_at runs byte ≡ wanted → ⊥
-  pub first : (earlier : Place) → lies_in earlier range ≡ true → earlier.offset < byte.offset → holder_at runs earlier ≡ wanted
+  pub first : (earlier : Place) → lies_in earlier range ≡ true → earlier.offset < byte.offset →
+      holder_at runs earlier ≡ wanted
 
 -- whether a run is of the region
 abbrev pub has_region_at : List Run → ℕ → ℕ → Bool

@@ -47,7 +47,8 @@ place_at pool region offset = record { pool = pool; region = region; offset = of
 
 -- how many bytes of a region of a pool are at a holder that passes
 unfoldable pub region_bytes : (Option Holder → Bool) → Holding → ℕ → ℕ → ℕ
-region_bytes test held pool region = sum_below (λ offset. if test (held (place_at pool region offset)) then 1 else 0) (2 ^ 64)
+region_bytes test held pool region =
+    sum_below (λ offset. if test (held (place_at pool region offset)) then 1 else 0) (2 ^ 64)
 
 -- the sum of a function over all regions of all pools
 unfoldable pub sum_regions : (ℕ → ℕ → ℕ) → ℕ

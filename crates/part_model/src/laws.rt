@@ -1,5 +1,11 @@
 //! Laws of moves and of totals. Each is what a function with an empty body ensures.
-ghost use Rattle.part_model.specs.Laws.{OneHolder, ApartCommute, TotalsFollow, LiveFollow, TotalsSum};
+ghost use Rattle.part_model.specs.Laws.{OneAnswer, OneHolder, ApartCommute, TotalsFollow, LiveFollow, TotalsSum};
+
+/// What a move answers is determined by where the bytes are and by the move: there is one first byte in its way, or none.
+/// Want of memory alone comes besides.
+pub fn answers_once()
+    ensures { OneAnswer }
+{}
 
 /// A lawful move keeps exactly one holder a byte: a byte of the pool has one afterwards, but where the move takes it out
 /// of the pool, and a byte that wasn't in the pool has one exactly where the move brings it in.

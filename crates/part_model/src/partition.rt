@@ -25,6 +25,7 @@ pub enum ApplyError {
         held: Option<Holder>,
         wanted: Option<Holder>,
     },
+    /// The move could be made, but there was no memory to note it.
     NoMemory,
 }
 
@@ -36,7 +37,7 @@ pub struct Partition {
 }
 
 impl Model for Partition {
-    ghost use Rattle.std.specs.Prelude.{◌↔◌, IsTrue, List};
+    ghost use Rattle.std.specs.Prelude.{List};
     ghost use Rattle.part_model.specs.declared.runs.Run.{Run};
     ghost use Rattle.part_model.specs.Runs.{AreRuns};
 
@@ -88,8 +89,8 @@ impl Partition {
         }
     }
 
-    /// Moves the parts of a move, all of them or none. It judges by runs of one holder, so a move over a whole region
-    /// costs no more than one over a few bytes of it.
+    /// Moves the parts of a move, all of them or none; nothing is changed on an error. It judges by runs of one holder and
+    /// never byte by byte, so a part of 8 MiB costs no more than one of 8 bytes.
     pub fn apply(&mut self, alloc: Global, m: &Move) -> Result<(), ApplyError>
         requires whole { AreWhole m.now.parts.items }
         requires apart { AreApart m.now.parts.items }

@@ -51,8 +51,9 @@ fn nearest_edge(range: &Range, byte: &Place, end: u64) -> u64
     requires room { byte.now.offset < end }
     ensures above { byte.now.offset < result }
     ensures within { result ≤ end }
-    ensures alike { (other : Place) → same_region other byte.now ≡ true → byte.now.offset ≤ other.offset
-        → other.offset < result → lies_in other range.now ≡ lies_in byte.now range.now }
+    ensures alike { (other : Place) → same_region other byte.now ≡ true
+        → byte.now.offset ≤ other.offset → other.offset < result
+        → lies_in other range.now ≡ lies_in byte.now range.now }
 {
     let start = range.place.offset;
     let stop = start + range.bytes;
@@ -84,7 +85,8 @@ fn run_end(runs: &[Run], byte: &Place, end: u64) -> u64
 pub(crate) fn first_elsewhere(runs: &[Run], range: &Range, wanted: Option<Holder>) -> Option<Place>
     requires sound { All IsSound runs.now }
     requires whole { IsWhole range.now }
-    ensures { MatchOption result ((byte : Place) → lies_in byte range.now ≡ true → holder_at runs.now byte ≡ wanted)
+    ensures { MatchOption result
+        ((byte : Place) → lies_in byte range.now ≡ true → holder_at runs.now byte ≡ wanted)
         (λ byte. IsFirstElsewhere runs.now range.now wanted byte) }
 {
     let end = range.place.offset + range.bytes;
@@ -171,10 +173,12 @@ fn keep_outside(kept: &mut Vec<Run>, run: &Run, range: &Range) -> Result<(), All
     requires run { IsSound run.now }
     requires whole { IsWhole range.now }
     ensures held { OnOk result ((byte : Place) → holder_at kept.new.items byte
-        ≡ first_of (holder_at kept.old.items byte) (if lies_in byte range.now then None else at_piece (Some run.now) byte)) }
+        ≡ first_of (holder_at kept.old.items byte)
+        (if lies_in byte range.now then None else at_piece (Some run.now) byte)) }
     ensures sound { OnOk result (All IsSound kept.new.items) }
     ensures cover { OnOk result ((byte : Place) → cover kept.new.items byte
-        ≡ cover kept.old.items byte + count_of (if lies_in byte range.now then None else at_piece (Some run.now) byte)) }
+        ≡ cover kept.old.items byte
+        + count_of (if lies_in byte range.now then None else at_piece (Some run.now) byte)) }
 {
     push_piece(kept, before(run, range))?;
     push_piece(kept, behind(run, range))?;
@@ -201,7 +205,8 @@ fn outside(alloc: Global, runs: &[Run], range: &Range) -> Result<Vec<Run>, Alloc
 /// The range of a part under its new holder, if it is to be in the pool.
 fn arrived(part: Part) -> Option<Run>
     requires { IsWhole part.range }
-    ensures held { (byte : Place) → at_piece result byte ≡ (if lies_in byte part.range then part.to else None) }
+    ensures held { (byte : Place) → at_piece result byte
+        ≡ (if lies_in byte part.range then part.to else None) }
     ensures sound { IfSome result IsSound }
 {
     match part.to {
@@ -217,7 +222,8 @@ fn arrived(part: Part) -> Option<Run>
 fn moved(alloc: Global, runs: &[Run], part: &Part) -> Result<Vec<Run>, AllocError>
     requires runs { AreRuns runs.now }
     requires whole { IsWhole part.now.range }
-    ensures held { IfOk result (λ next. (byte : Place) → holder_at next.items byte ≡ after_part (holder_at runs.now) part.now byte) }
+    ensures held { IfOk result (λ next. (byte : Place) → holder_at next.items byte
+        ≡ after_part (holder_at runs.now) part.now byte) }
     ensures runs { IfOk result (λ next. AreRuns next.items) }
 {
     let mut next = outside(alloc, runs, &part.range)?;
@@ -229,7 +235,8 @@ fn moved(alloc: Global, runs: &[Run], part: &Part) -> Result<Vec<Run>, AllocErro
 pub(crate) fn moved_all(alloc: Global, runs: &[Run], parts: &[Part]) -> Result<Vec<Run>, AllocError>
     requires runs { AreRuns runs.now }
     requires whole { AreWhole parts.now }
-    ensures held { IfOk result (λ next. (byte : Place) → holder_at next.items byte ≡ after_parts (holder_at runs.now) parts.now byte) }
+    ensures held { IfOk result (λ next. (byte : Place) → holder_at next.items byte
+        ≡ after_parts (holder_at runs.now) parts.now byte) }
     ensures runs { IfOk result (λ next. AreRuns next.items) }
 {
     let mut next = Vec::from_slice(alloc, runs)?;
