@@ -1,0 +1,10 @@
+pub mod Shapes
+pub mod Steps
+pub mod Covers
+pub mod Runs
+pub mod RegionBytes
+pub mod Moving
+pub mod Mallocs
+pub mod Examples
+pub mod FirstMalloc
+pub mod Scans

@@ -1,0 +1,48 @@
+//! Laws of the lawful moves and of runs. Each is what a function with an empty body ensures.
+ghost use Rattle.machine.specs.Laws.{StepsKeepOne, ApartStepsCommute, StepsFollow, GrantsAreFresh, RunsHaveOneHolder, RunsSum, RunsExist, LooksMissNone};
+
+/// A step keeps exactly one holder a byte: a byte of the pool has one afterwards, but where the step takes it out of the
+/// pool, and a byte that wasn't in the pool has one exactly where the step brings it in.
+pub fn steps_keep_one_holder()
+    ensures { StepsKeepOne }
+{}
+
+/// Two steps whose moves are over ranges that are apart commute: each move can be made after the other, and it is all one
+/// which is made first.
+pub fn apart_steps_commute()
+    ensures { ApartStepsCommute }
+{}
+
+/// The totals follow a step: the count of a kind of holder loses the bytes that leave it and gains those that come to it.
+pub fn totals_follow_steps()
+    ensures { StepsFollow }
+{}
+
+/// An object that is granted was no object's: its bytes were rest, private or in the hand of the seat that grants, and its
+/// grant has the seat's next number.
+pub fn grants_are_fresh()
+    ensures { GrantsAreFresh }
+{}
+
+/// In a run each byte of each live region has exactly one holder, at any time, and no other byte has one.
+pub fn runs_have_one_holder()
+    ensures { RunsHaveOneHolder }
+{}
+
+/// In a run the totals of all kinds of holders sum to the bytes of the live regions, at any time: each region has as many
+/// bytes with a holder as its record says.
+pub fn runs_sum_to_their_regions()
+    ensures { RunsSum }
+{}
+
+/// There are runs: one in which an object is granted, and one in which it is refused.
+pub fn runs_exist()
+    ensures { RunsExist }
+{}
+
+/// As long as no two calls of the pool were open at once, a scan misses no room: where no block fits in the lists of the
+/// bins that it looks at, no bytes in a row that are all in bins fit. So a null for want of a fitting block isn't given too
+/// early.
+pub fn looks_miss_none()
+    ensures { LooksMissNone }
+{}
