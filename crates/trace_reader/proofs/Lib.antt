@@ -2,3 +2,9 @@ pub mod WordLemmas
 pub mod NumberLemmas
 pub mod FirstLemmas
 pub mod FirstLaws
+pub mod SlotLemmas
+pub mod OptionLemmas
+pub mod RowLemmas
+pub mod ThreadLemmas
+pub mod ContextLemmas
+pub mod TextLemmas
