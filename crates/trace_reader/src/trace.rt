@@ -149,3 +149,6 @@ pub fn read_trace(alloc: Global, bytes: &[u8], forms: Forms) -> Result<Trace, Tr
         })),
     }
 }
+
+#[cfg(test)]
+mod tests;
