@@ -1,13 +1,12 @@
 -- How the steps of a cache bin change its ages.
-use Rattle.std.proofs.Common.{◌≡◌, ◌≢◌, ◌+◌, ◌-◌, ◌<◌, ◌≤◌, ℕ, Bool, true, false, List, [], ◌∷◌, ◌++◌, length, take, nat_lt, ◌==◌, if◌then◌else◌, ap, sym, refl, arith}
+use Rattle.std.proofs.Common.{◌≡◌, ◌≤◌, ℕ, Bool, true, false, List, [], ◌∷◌, length, take, nat_lt, ◌==◌, if◌then◌else◌, ap, sym, refl, arith}
 use Rattle.std.proofs.lemmas.List.Sums.{suffix_len-le-length}
 use Rattle.std.proofs.lemmas.List.{take_all}
 use Rattle.std.proofs.lemmas.Bool.Decides.{nat_tests}
 use Rattle.cache_ages.specs.CacheSteps.{span_between, stale_count, after_cleanup, after_regular, after_soft, regular_threshold, half_of_sum, step_of, after_get, after_put, after_put_in, after_put_over}
-use Rattle.cache_ages.specs.CacheLaws.{LeavesAllButOldest, LeavesInOrder, IsTakenAgain, GetTakesWhatWasPut, UndoRestoresUsed}
+use Rattle.cache_ages.specs.CacheLaws.{LeavesAllButOldest, LeavesInOrder, GetTakesWhatWasPut}
 use Rattle.cache_ages.specs.declared.CacheNumbers.{CacheNumbers}
-use Rattle.cache_ages.specs.declared.CacheStep.{CacheStep}
-use Rattle.cache_ages.specs.declared.CacheOp.TheVariants.{Get, Put, Undo}
+use Rattle.cache_ages.specs.declared.CacheOp.TheVariants.{Put}
 
 -- a cleanup releases no more than there is
 pub stale_count-le-length : (threshold time : ℕ) (ages : List ℕ) → stale_count threshold time ages ≤ length ages
@@ -16,8 +15,8 @@ stale_count-le-length threshold time ages =
 
 -- a cleanup releases the oldest
 pub cleanup_order : (numbers : CacheNumbers) (threshold time : ℕ) (ages : List ℕ)
-    → LeavesAllButOldest ages (after_cleanup numbers threshold time ages).numbers.ages.items []
-    (after_cleanup numbers threshold time ages).released
+    → let step = after_cleanup numbers threshold time ages in
+    LeavesAllButOldest ages step.numbers.ages.items [] step.released
 cleanup_order numbers threshold time ages = record {
   within = stale_count-le-length threshold time ages;
   others = refl;
@@ -25,16 +24,16 @@ cleanup_order numbers threshold time ages = record {
 
 -- so does a regular one
 pub regular_order : (numbers : CacheNumbers) (time : ℕ) (ages : List ℕ) → numbers.ages.items ≡ ages
-    → LeavesInOrder (after_regular numbers time ages).taken ages (after_regular numbers time ages).numbers.ages.items []
-    (after_regular numbers time ages).released
+    → let step = after_regular numbers time ages in
+    LeavesInOrder step.taken ages step.numbers.ages.items [] step.released
 regular_order numbers time [] h = record { within = omega arith; others = h }
 regular_order numbers time (newest ∷ older) h =
     cleanup_order numbers (regular_threshold numbers time (newest ∷ older)) time (newest ∷ older)
 
 -- so does a soft one
 pub soft_order : (numbers : CacheNumbers) (time : ℕ) (ages : List ℕ) → numbers.ages.items ≡ ages
-    → LeavesInOrder (after_soft numbers time ages).taken ages (after_soft numbers time ages).numbers.ages.items []
-    (after_soft numbers time ages).released
+    → let step = after_soft numbers time ages in
+    LeavesInOrder step.taken ages step.numbers.ages.items [] step.released
 soft_order numbers time [] h = record { within = omega arith; others = h }
 soft_order numbers time (newest ∷ older) h =
     cleanup_order numbers (half_of_sum numbers.threshold numbers.mean) time (newest ∷ older)
@@ -42,7 +41,8 @@ soft_order numbers time (newest ∷ older) h =
 -- a Put of which it is known whether the bin is full
 choice_ages : (full : Bool) (numbers : CacheNumbers) (time : ℕ) (ages : List ℕ)
     → (full ≡ false → take 63 ages ≡ ages)
-    → (if full then after_put_over numbers time ages else after_put_in numbers time ages).numbers.ages.items ≡ time ∷ take 63 ages
+    → let step = if full then after_put_over numbers time ages else after_put_in numbers time ages in
+    step.numbers.ages.items ≡ time ∷ take 63 ages
 choice_ages true numbers time ages h = refl
 choice_ages false numbers time ages h = ap (λ xs. time ∷ xs) (sym (h refl))
 

@@ -5,7 +5,7 @@
 //! bin has at most 64 items, and that time is a count of gets and puts, is this project's own.
 #![tactic(auto)]
 
-ghost use Rattle.std.specs.Prelude.{◌≡◌, ◌-◌, ◌^◌, ◌<◌, ◌≤◌, [], length};
+ghost use Rattle.std.specs.Prelude.{◌≡◌, ◌-◌, ◌^◌, ◌<◌, ◌≤◌, [], length, slice_index};
 ghost use Rattle.cache_ages.specs.CacheSteps.{CanStep, step_of, plain_step, after_get, after_hit, after_miss, after_put, after_undo, after_release, after_cleanup, after_regular, after_soft, stale_count, ages_of};
 ghost use Rattle.cache_ages.specs.CacheLaws.{LeavesInOrder, put_by};
 
@@ -48,7 +48,8 @@ pub struct CacheNumbers {
     pub get: u64,
     /// The age of the item that was released last, or 0 where none was since the last get that missed.
     pub cleaned: u64,
-    /// The age of each item, which is the time of its put. The newest is first.
+    /// The age of each item, which is the time of its put. The newest is first; new and old are said of this order,
+    /// which is the order of the puts, and the ages need not fall along it.
     pub ages: ArrayVec<u64, MOST_ITEMS>,
 }
 
@@ -88,7 +89,8 @@ pub struct CacheStep {
     pub released: u8,
 }
 
-/// What `op` at `time` does to a bin. The time counts for nothing at an undo and a hard cleanup.
+/// What `op` at `time` does to a bin. The time counts for nothing at an undo and a hard cleanup. A put and an undo need
+/// a block in use, and a get needs that one more can be counted. No memory is taken.
 pub fn cache_step(numbers: &CacheNumbers, op: CacheOp, time: u64) -> CacheStep
     requires { CanStep op numbers.now.used }
     ensures step { result ≡ step_of numbers.now op time }
@@ -97,6 +99,8 @@ pub fn cache_step(numbers: &CacheNumbers, op: CacheOp, time: u64) -> CacheStep
     ensures room { length result.numbers.ages.items ≤ 64 }
     ensures order { LeavesInOrder result.taken numbers.now.ages.items result.numbers.ages.items
         (put_by op time) result.released }
+    ensures cleaned { 0 < result.released →
+        result.numbers.cleaned ≡ slice_index numbers.now.ages.items (length numbers.now.ages.items - result.released) }
     ensures soft { op ≡ CacheOp.Soft → length result.numbers.ages.items ≤ length numbers.now.ages.items }
     ensures hard { op ≡ CacheOp.Hard → result.numbers.ages.items ≡ [] }
 {

@@ -1,4 +1,7 @@
+ghost use Rattle.std.specs.Prelude.{◌≡◌, ◌≤◌, length};
+
 use super::*;
+use std::array;
 
 // A bin of which these are the numbers, in the order of the fields.
 fn bin(used: u64, mean: u64, threshold: u64, get: u64, cleaned: u64, ages: &[u64]) -> CacheNumbers
@@ -53,16 +56,17 @@ fn a_miss_sets_the_threshold(rt: HostRuntime) {
     assert_eq!(rt; wrapped.numbers.threshold, u64::MAX);
 }
 
+// The ages of a full bin into which an item was put at each of the last 64 ticks.
+fn full(newest: u64) -> [u64; 64]
+    requires { 64 ≤ newest }
+{
+    array::from_fn(|i| newest - i as u64)
+}
+
 #[test]
 fn a_full_bin_releases_the_oldest_at_a_put(rt: HostRuntime) {
-    let mut ages = [0; 64];
-    for (i, age) in ages.iter_mut().enumerate() {
-        *age = 164 - i as u64;
-    }
-    let put = cache_step(&bin(1, 0, 0, 0, 0, &ages), CacheOp::Put, 170);
-    let mut after = [170; 64];
-    after[1..].copy_from_slice(&ages[..63]);
-    assert_eq!(rt; put, step(bin(0, 0, 0, 0, 101, &after), false, 1));
+    let put = cache_step(&bin(1, 0, 0, 0, 0, &full(164)), CacheOp::Put, 165);
+    assert_eq!(rt; put, step(bin(0, 0, 0, 0, 101, &full(165)), false, 1));
 }
 
 #[test]

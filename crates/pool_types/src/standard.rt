@@ -1,9 +1,11 @@
-//! Adapters over standard input and output, or any reader and writer of std. They tell no bytes: what a stream holds
-//! is not known. They are the trusted edge, a few lines each. This project's own.
-ghost use Rattle.std.specs.Prelude.{None, IfSome, length, ◌<◌, ◌≤◌};
+//! Adapters over standard input and output, or any reader and writer of std. A source tells the bytes that its reader
+//! tells, and standard input tells none; a sink tells none, since a flush that fails leaves open what was taken. They are
+//! the trusted edge, a few lines each. This project's own.
+ghost use Rattle.std.specs.Prelude.{◌≡◌, None, IfSome, length, ◌<◌, ◌≤◌};
 
 use crate::outside::{Failed, Sink, Source};
 use std::io::{Read, Write};
+use std::marker::Model;
 
 /// A reader whose failed reads are counted.
 #[derive(Drop)]
@@ -12,17 +14,27 @@ pub struct StandardSource<R: Read> {
     faults: u64,
 }
 
+impl<R: Read> Model for StandardSource<R> {
+    ghost use Rattle.std.specs.Prelude.{ℕ};
+
+    ghost Value = { R × ℕ };
+
+    ghost view = { λ s. (s.inner, s.faults) };
+}
+
 impl<R: Read> StandardSource<R> {
     /// No read has failed yet.
-    pub fn of(inner: R) -> Self {
+    pub fn of(inner: R) -> Self
+        ensures { result ≡ (inner, 0) }
+    {
         StandardSource { inner, faults: 0 }
     }
 }
 
 impl<R: Read> Source for StandardSource<R> {
-    ghost left = { λ _. None };
+    ghost left = { λ s. R.remaining s.0 };
 
-    ghost faults = { λ s. s.faults };
+    ghost faults = { λ s. s.1 };
 
     fn read(&mut self, buf: &mut [u8]) -> Result<usize, Failed> {
         match self.inner.read(buf) {
@@ -42,9 +54,19 @@ pub struct StandardSink<W: Write> {
     faults: u64,
 }
 
+impl<W: Write> Model for StandardSink<W> {
+    ghost use Rattle.std.specs.Prelude.{ℕ};
+
+    ghost Value = { W × ℕ };
+
+    ghost view = { λ s. (s.inner, s.faults) };
+}
+
 impl<W: Write> StandardSink<W> {
     /// No write has failed yet.
-    pub fn of(inner: W) -> Self {
+    pub fn of(inner: W) -> Self
+        ensures { result ≡ (inner, 0) }
+    {
         StandardSink { inner, faults: 0 }
     }
 }
@@ -66,7 +88,7 @@ fn write_through<W: Write>(inner: &mut W, piece: &[u8]) -> Option<usize>
 impl<W: Write> Sink for StandardSink<W> {
     ghost taken = { λ _. None };
 
-    ghost faults = { λ s. s.faults };
+    ghost faults = { λ s. s.1 };
 
     fn write(&mut self, piece: &[u8]) -> Result<usize, Failed> {
         match write_through(&mut self.inner, piece) {

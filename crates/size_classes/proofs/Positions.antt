@@ -1,5 +1,5 @@
 -- The class of a size: that the positions which the code finds are the first that are not smaller.
-use Rattle.std.proofs.Common.{◌≡◌, ℕ, ◌+◌, ◌-◌, ◌*◌, ◌/◌, ◌^◌, ◌<◌, ◌≤◌, true, Some, None, get_or, nat_le, nat_lt, suc, zero, ◌∙◌, arith, ap, subst, cond, lit≤, lit<, inl, inr}
+use Rattle.std.proofs.Common.{◌≡◌, ℕ, ◌+◌, ◌-◌, ◌*◌, ◌/◌, ◌^◌, ◌<◌, ◌≤◌, true, Some, None, get_or, nat_le, nat_lt, suc, zero, sym, ◌∙◌, arith, ap, subst, cond, lit≤, lit<, inl, inr}
 use Rattle.std.specs.List.{position_or_len}
 use Rattle.std.proofs.lemmas.List.Sums.{position_or_len_is}
 use Rattle.std.proofs.Math.Nat.{pow-le-pow_right}
@@ -62,6 +62,18 @@ pub first_class-some : (size : ℕ) → size ≤ 8128 → (class : ℕ) × (firs
 first_class-some size most =
     let found = first_below size 25 (lit< tt) (class_size-last size most) in
     (found.0, first_class-is size found.0 found.1, found.1)
+
+-- what the definition finds is the first class that is not smaller
+pub first_class-found : (size class : ℕ) → first_class size ≡ Some class → IsFirstClass size class
+first_class-found size class found =
+    elim (cases_lt 8128 size) [
+      | inl large ↦ absurd (let none : None ≡ Some class = sym (first_class-none size large) ∙ found in cc)
+      | inr small ↦
+          let some = first_class-some size small in
+          let both : Some some.0 ≡ Some class = sym some.1 ∙ found in
+          let same : some.0 ≡ class = cc in
+          subst (IsFirstClass size) same some.2
+    ]
 
 -- in a doubling it is the end of the quarter that has the size
 pub at_quarter : (size doubling quarter : ℕ) → doubling < 4 → quarter < 4 → 2 ^ (doubling + 4) * (4 + quarter) < size → size ≤ 2 ^ (doubling + 4) * (4 + (quarter + 1)) → IsFirstClass size (4 * doubling + 5 + quarter)

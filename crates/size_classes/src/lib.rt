@@ -1,4 +1,5 @@
-//! The classes of sizes of small objects, and the class of a size.
+//! The classes of sizes of small objects, the class of a size, and what a request for memory is served
+//! as.
 //!
 //! An object that is not large lies in a slab whose objects all have one size, the slab's class. The
 //! classes and how the class of a size is found from its bits are modelled on oneTBB's
@@ -9,6 +10,8 @@ ghost use Rattle.std.specs.Prelude.{◌≡◌, ℕ, ◌<◌, ◌≤◌};
 ghost use Rattle.size_classes.specs.Classes.{first_class, IsFirstClass, class_size, class_objects};
 
 use std::marker::Model;
+
+pub mod request;
 
 /// How many classes there are.
 pub const CLASSES: usize = 26;
@@ -37,6 +40,20 @@ impl Model for Class {
     ghost invariant = { λ class. class.position < 26 };
 
     ghost inverse = { λ position. record { position = position } };
+}
+
+/// What a request for memory is served as.
+#[derive(Clone, Copy, Debug, PartialEq, Eq)]
+pub enum Served {
+    /// An object of this class.
+    Small(Class),
+
+    /// A block of so many granules of 8192 bytes, in which the object starts at a multiple of the
+    /// alignment, in bytes.
+    Large { granules: u64, alignment: u64 },
+
+    /// Nothing: an aligned request for no bytes, or with an alignment that is no power of two.
+    Bad,
 }
 
 impl Class {
@@ -114,8 +131,8 @@ fn quarters_position(size: u64) -> u8
     (4 * u64::from(order) + quarters - 23) as u8
 }
 
-/// The position for a size from 1025 to 8128. These classes are as large as so many objects in one
-/// slab allow.
+/// The position for a size from 1025 to 8128. These classes are the largest multiples of 64 of which a
+/// slab has room for 9, 6, 4, 3 and 2.
 #[tactic(auto, using(crate::proofs::Positions::first_at), unfolding(crate::specs::Classes::class_size))]
 fn fitting_position(size: u64) -> u8
     requires above { 1024 < size }

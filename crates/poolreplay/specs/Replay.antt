@@ -1,0 +1,56 @@
+-- What a replay answers and writes.
+use Rattle.std.specs.Prelude.{◌≡◌, ℕ, List, [], ◌∷◌, ◌++◌, codes}
+use Rattle.std.specs.Fmt.{decimal}
+use Rattle.std.specs.declared.option.Option.{Option}
+use Rattle.std.specs.Io.KnownBytes.{Keeps}
+use Rattle.trace_reader.specs.First.{Spells, IsRefused}
+use Rattle.trace_reader.specs.declared.first.FirstAct.{FirstAct}
+use Rattle.poolreplay.specs.declared.replay.Status.{Status}
+use Rattle.poolreplay.specs.declared.replay.Status.TheVariants.{Done, BadWords, BadTrace, TooLong, ReadFault, WriteFault, NoMemory}
+use Rattle.poolreplay.specs.Streams.{IsReadWhole, IsReadPast}
+use Rattle.poolreplay.specs.Report.{report_text}
+
+-- the one command line
+abbrev pub IsCommand : List (List ℕ) → Type 0
+IsCommand words = words ≡ codes "replay" ∷ []
+
+-- the bytes spell a trace, and the text is its report
+pub record IsReplayed (bytes text : List ℕ) : Type 0 where
+  pub acts : List FirstAct
+  pub spelled : Spells bytes acts
+  pub report : text ≡ report_text acts
+
+-- the text of a refused line
+abbrev pub refused_text : ℕ → ℕ → List ℕ
+refused_text line kind = codes "bad trace line " ++ (decimal line ++ (codes " kind " ++ (decimal kind ++ codes "\n")))
+
+-- the text that is due with a status, for bytes that were read whole
+abbrev pub IsReply : List ℕ → Status → List ℕ → Type 0
+IsReply bytes Done text = IsReplayed bytes text
+IsReply bytes (BadTrace line kind) text = (kind ≡ 12) × IsRefused bytes line × (text ≡ refused_text line kind)
+IsReply bytes NoMemory text = text ≡ []
+IsReply bytes BadWords text = ⊥
+IsReply bytes TooLong text = ⊥
+IsReply bytes ReadFault text = ⊥
+IsReply bytes WriteFault text = ⊥
+
+-- The text that is due with a status, for these words and what was read. Nothing is read for words that are no command
+-- line, and want of memory is due at any time.
+abbrev pub IsDue : List (List ℕ) → Option (List ℕ) → Option (List ℕ) → Status → List ℕ → Type 0
+IsDue words old new BadWords text = (IsCommand words → ⊥) × Keeps old new × (text ≡ codes "bad words\n")
+IsDue words old new Done text = IsCommand words × ((bytes : List ℕ) × IsReadWhole old new bytes × IsReply bytes Done text)
+IsDue words old new (BadTrace line kind) text = IsCommand words × ((bytes : List ℕ) × IsReadWhole old new bytes × IsReply bytes (BadTrace line kind) text)
+IsDue words old new TooLong text = IsCommand words × IsReadPast old new 4194305 × (text ≡ [])
+IsDue words old new ReadFault text = IsCommand words × (text ≡ [])
+IsDue words old new WriteFault text = ⊥
+IsDue words old new NoMemory text = text ≡ []
+
+-- the status that the process ends with
+abbrev pub status_number : Status → ℕ
+status_number Done = 0
+status_number BadWords = 2
+status_number (BadTrace line kind) = 3
+status_number TooLong = 4
+status_number ReadFault = 5
+status_number WriteFault = 6
+status_number NoMemory = 8

@@ -1,0 +1,181 @@
+//! The program's rows: what each trace reports, and with which status. Expected texts come from the language's
+//! description in `docs/trace.md`.
+ghost use Rattle.std.specs.Prelude.{◌≤◌};
+
+use crate::replay::{Status, replay};
+use pool_types::{MemorySink, MemorySource};
+use std::alloc::{AllocError, Global};
+use std::test::Fail;
+
+/// The report of one malloc of 100 bytes.
+const ONE_MALLOC: &str = "2 made\n3 got P0.R0+16272 112 A#1\n\
+    total P0 regions 1 bytes 1048576 waste 0 head 144 rest 16128 private 0 public 0 object 112 \
+    large-head 0 slab-cache 0 cached 0 bin 1032192 queue 0 hand 0\nleak P0.R0+16272 112 A#1\nend\n";
+
+/// The report of a pool without calls.
+const NO_CALL: &str = "2 made\n\
+    total P0 regions 0 bytes 0 waste 0 head 0 rest 0 private 0 public 0 object 0 \
+    large-head 0 slab-cache 0 cached 0 bin 0 queue 0 hand 0\nend\n";
+
+/// The trace of one malloc of 100 bytes.
+const TRACE: &str = "threads A\npool P0 fixed\nA P0 x = malloc 100\n";
+
+/// A source of these bytes that moves at most so many a call.
+fn source_of(alloc: Global, bytes: &[u8], most: usize) -> Result<MemorySource, AllocError>
+    requires { 1 ≤ most }
+{
+    let bytes = Vec::from_slice(alloc, bytes)?;
+    Ok(MemorySource::of(bytes, most, Vec::new(alloc)))
+}
+
+/// Replays what the source has, for the words `replay` and those behind it.
+fn run(
+    alloc: Global,
+    more: &[&str],
+    mut source: MemorySource,
+    mut sink: MemorySink,
+) -> Result<(Status, Vec<u8>), AllocError> {
+    let mut words = vec![in alloc; String::from_str(alloc, "replay")?]?;
+    for word in more {
+        words.push(String::from_str(alloc, word)?)?;
+    }
+    let status = replay(alloc, words.as_slice(), &mut source, &mut sink);
+    Ok((status, Vec::from_slice(alloc, sink.bytes())?))
+}
+
+/// A sink that takes at most so many bytes a call, and fails at these calls.
+fn sink_of(alloc: Global, most: usize, failing: &[u64]) -> Result<MemorySink, AllocError>
+    requires { 1 ≤ most }
+{
+    let failing = Vec::from_slice(alloc, failing)?;
+    Ok(MemorySink::of(Vec::new(alloc), most, failing))
+}
+
+#[test]
+fn whole_traces_and_their_prefixes_are_reported(rt: HostRuntime) -> Result<(), Fail> {
+    let alloc = rt.alloc();
+    let cases = [
+        ("", "end\n"),
+        ("threads A\n", "end\n"),
+        ("threads A\npool P0 fixed\n", NO_CALL),
+        (TRACE, ONE_MALLOC),
+    ];
+    for most in [1, 4096] {
+        for (trace, want) in cases {
+            let source = source_of(alloc, trace.as_bytes(), most)?;
+            let (status, text) = run(alloc, &[], source, sink_of(alloc, most, &[])?)?;
+            assert_eq!(rt; status, Status::Done, "at {trace}");
+            assert_eq!(rt; text.as_slice(), want.as_bytes(), "at {trace}");
+        }
+    }
+    Ok(())
+}
+
+#[test]
+fn the_size_decides_place_and_usable_bytes(rt: HostRuntime) -> Result<(), Fail> {
+    let alloc = rt.alloc();
+    let cases = [
+        (
+            "A1_ P0 b = malloc 0\n",
+            "2 made\n3 got P0.R0+16376 8 A1_#1\n",
+        ),
+        (
+            "A1_ P0 b2 = malloc 8128\n",
+            "2 made\n3 got P0.R0+8256 8128 A1_#1\n",
+        ),
+        (
+            "A1_ P0 b = malloc 1025\n",
+            "2 made\n3 got P0.R0+14592 1792 A1_#1\n",
+        ),
+    ];
+    for (line, want) in cases {
+        let trace = format!(in alloc; "threads A1_\npool P0 fixed\n{line}")?;
+        let source = source_of(alloc, trace.as_bytes(), 4096)?;
+        let (status, text) = run(alloc, &[], source, sink_of(alloc, 4096, &[])?)?;
+        assert_eq!(rt; status, Status::Done, "at {line}");
+        assert!(rt; text.starts_with(want.as_bytes()), "at {line}");
+    }
+    Ok(())
+}
+
+#[test]
+fn the_first_line_that_is_not_served_is_refused(rt: HostRuntime) -> Result<(), Fail> {
+    let alloc = rt.alloc();
+    let cases = [
+        ("threads a\n", 1),
+        ("threads A B\n", 1),
+        ("\n", 1),
+        ("# no comment yet\n", 1),
+        ("pool P0 fixed\n", 1),
+        ("threads A\npool P0\n", 2),
+        ("threads A\npool P1 fixed\n", 2),
+        ("threads A\npool P0 fixed\nB P0 x = malloc 1\n", 3),
+        ("threads A\npool P0 fixed\nA P0 null = malloc 1\n", 3),
+        ("threads A\npool P0 fixed\nA P0 x = malloc 8129\n", 3),
+        ("threads A\npool P0 fixed\nA P0 x = malloc 01\n", 3),
+        ("threads A\npool P0 fixed\nA P0 free x\n", 3),
+        ("threads A\npool P0 fixed\nA P0 x = malloc 100", 3),
+        (
+            "threads A\npool P0 fixed\nA P0 x = malloc 1\nA P0 y = malloc 1\n",
+            4,
+        ),
+    ];
+    for (trace, line) in cases {
+        let source = source_of(alloc, trace.as_bytes(), 4096)?;
+        let (status, text) = run(alloc, &[], source, sink_of(alloc, 4096, &[])?)?;
+        let want = format!(in alloc; "bad trace line {line} kind 12\n")?;
+        assert_eq!(rt; status, Status::BadTrace { line, kind: 12 }, "at {trace}");
+        assert_eq!(rt; text.as_slice(), want.as_bytes(), "at {trace}");
+    }
+    Ok(())
+}
+
+#[test]
+fn other_words_read_nothing(rt: HostRuntime) -> Result<(), Fail> {
+    let alloc = rt.alloc();
+    let sink = sink_of(alloc, 4096, &[])?;
+    let (status, text) = run(alloc, &["now"], source_of(alloc, b"", 1)?, sink)?;
+    assert_eq!(rt; status, Status::BadWords);
+    assert_eq!(rt; text.as_slice(), b"bad words\n".as_slice());
+    let mut source = source_of(alloc, b"", 1)?;
+    let mut sink = sink_of(alloc, 4096, &[])?;
+    let status = replay(alloc, &[], &mut source, &mut sink);
+    assert_eq!(rt; status, Status::BadWords);
+    assert_eq!(rt; sink.bytes(), b"bad words\n".as_slice());
+    Ok(())
+}
+
+#[test]
+fn a_write_that_fails_leaves_the_front_of_the_text(rt: HostRuntime) -> Result<(), Fail> {
+    let alloc = rt.alloc();
+    let source = source_of(alloc, TRACE.as_bytes(), 4096)?;
+    let (status, text) = run(alloc, &[], source, sink_of(alloc, 10, &[2])?)?;
+    assert_eq!(rt; status, Status::WriteFault);
+    assert_eq!(rt; text.as_slice(), b"2 made\n3 g".as_slice());
+    Ok(())
+}
+
+#[test]
+fn a_read_that_fails_ends_the_replay(rt: HostRuntime) -> Result<(), Fail> {
+    let alloc = rt.alloc();
+    let bytes = Vec::from_slice(alloc, TRACE.as_bytes())?;
+    let source = MemorySource::of(bytes, 20, vec![in alloc; 2]?);
+    let (status, text) = run(alloc, &[], source, sink_of(alloc, 4096, &[])?)?;
+    assert_eq!(rt; status, Status::ReadFault);
+    assert!(rt; text.is_empty());
+    Ok(())
+}
+
+#[test]
+fn a_trace_has_at_most_4194304_bytes(rt: HostRuntime) -> Result<(), Fail> {
+    let alloc = rt.alloc();
+    let refused = Status::BadTrace { line: 1, kind: 12 };
+    for (length, want) in [(4194304, refused), (4194305, Status::TooLong)] {
+        let bytes = vec![in alloc; b'a'; length]?;
+        let source = MemorySource::of(bytes, 4194305, Vec::new(alloc));
+        let (status, text) = run(alloc, &[], source, sink_of(alloc, 4096, &[])?)?;
+        assert_eq!(rt; status, want, "at {length} bytes");
+        assert_eq!(rt; text.is_empty(), want == Status::TooLong);
+    }
+    Ok(())
+}

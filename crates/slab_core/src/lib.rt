@@ -1,0 +1,104 @@
+//! One slab: which of its objects were handed out, and where they lie.
+//!
+//! A slab has 16384 bytes: a head, and behind it objects of one size. The record follows a block of oneTBB's
+//! `src/tbbmalloc/frontend.cpp` (`Block`: `bumpPtr`, `freeList` and `allocatedCount`). That objects go by their number
+//! is this project's own.
+#![tactic(auto)]
+
+ghost use Rattle.std.specs.Prelude.{◌≡◌, ◌≤◌, ◌<◌, ◌+◌, ◌*◌, ◌/◌, IsTrue, IsNone, ◌↔◌, None, IfSome, OnSome, IfNone};
+ghost use Rattle.size_classes.specs.Classes.{class_size, class_objects};
+ghost use Rattle.slab_core.specs.Layout.{object_offset, head_bytes};
+ghost use Rattle.slab_core.specs.Slabs.{IsValid, IsBelowHead, IsUsedUp, after_take, next_object};
+
+use size_classes::Class;
+
+pub mod laws;
+
+/// The bytes of a slab.
+pub const SLAB_BYTES: u32 = 16384;
+
+/// The record of a slab. Objects go by their number in the slab, from 0 for the one at the slab's end.
+///
+/// A record is valid where `count` is at most `handed`, `handed` is at most the objects of the class, and `head` is an
+/// object below `handed` exactly where `count` is below `handed`.
+#[derive(Clone, Copy, Debug, PartialEq, Eq)]
+pub struct SlabRec {
+    /// The class of the slab's objects.
+    pub class: Class,
+
+    /// The index of the slab's first granule.
+    pub index: u32,
+
+    /// How many objects of the rest were handed out; they are those below this number.
+    pub handed: u32,
+
+    /// The newest of the private objects, which were handed out and came back.
+    pub head: Option<u32>,
+
+    /// How many objects are held.
+    pub count: u32,
+}
+
+impl SlabRec {
+    /// A fresh slab, of which no object was handed out.
+    pub fn begun(class: Class, index: u32) -> Self
+        ensures exact { result ≡ record { class = class; index = index; handed = 0; head = None; count = 0 } }
+        ensures valid { IsValid result }
+    {
+        SlabRec {
+            class,
+            index,
+            handed: 0,
+            head: None,
+            count: 0,
+        }
+    }
+
+    /// Takes the newest private object, or where there is none the next of the rest. `below` is the private object after
+    /// the head. None is the answer exactly where there is neither, and then nothing is changed.
+    pub fn take(&mut self, below: Option<u32>) -> Option<u32>
+        requires valid { IsValid self.old }
+        requires below { IsBelowHead self.old below }
+        ensures none { IsNone result ↔ IsUsedUp self.old }
+        ensures object { IfSome result (λ object. object ≡ next_object self.old) }
+        ensures taken { OnSome result (self.new ≡ after_take self.old below) }
+        ensures kept { IfNone result (self.new ≡ self.old) }
+        ensures valid { IsValid self.new }
+    {
+        if let Some(object) = self.head {
+            self.head = below;
+            self.count += 1;
+            return Some(object);
+        }
+        if self.handed >= self.class.objects() {
+            return None;
+        }
+        let object = self.handed;
+        self.handed += 1;
+        self.count += 1;
+        Some(object)
+    }
+
+    /// Whether no object is held.
+    pub fn is_empty(&self) -> bool
+        ensures { IsTrue result ↔ (self.now.count ≡ 0) }
+    {
+        self.count == 0
+    }
+}
+
+/// Where an object of a slab of this class starts, in bytes from the slab's start. It is a multiple of 8, and of 16 but
+/// for the smallest class.
+pub fn object_offset(class: Class, object: u32) -> u32
+    requires { object < class_objects class }
+    ensures exact { result ≡ object_offset class object }
+    ensures behind_head { head_bytes class ≤ result }
+    ensures before_end { result + class_size class ≤ 16384 }
+    ensures eights { result ≡ 8 * (result / 8) }
+    ensures sixteens { 0 < class → result ≡ 16 * (result / 16) }
+{
+    SLAB_BYTES - (object + 1) * class.size() as u32
+}
+
+#[cfg(test)]
+mod tests;
