@@ -8,3 +8,8 @@ pub mod RowLemmas
 pub mod ThreadLemmas
 pub mod ContextLemmas
 pub mod TextLemmas
+pub mod OneWord
+pub mod OneSlot
+pub mod OneOption
+pub mod OneLine
+pub mod OneText

@@ -43,7 +43,7 @@ not_parted byte [] rest none = none 0 (omega arith) refl
 not_parted byte (first ∷ front) rest none = not_parted byte front rest (HasNo-rest byte first (front ++ byte ∷ rest) none)
 
 -- a number's text has no plus
-HasNo-decimal : (n : ℕ) → n < 2 ^ 64 → HasNo 43 (decimal n)
+pub HasNo-decimal : (n : ℕ) → n < 2 ^ 64 → HasNo 43 (decimal n)
 HasNo-decimal n small = not_in_digits own (decimal n) 43 (digits_decimal own n small) (search rules)
 
 -- a text that is parted at its first plus spells two numbers only where its parts do

@@ -59,6 +59,10 @@ pub record IsReadAs (forms : Forms) (bytes : List ℕ) (reading : Reading) : Typ
   pub parts : split_on 10 bytes ≡ texts ++ last ∷ []
   pub reads : ReadsLines forms nothing_yet 1 texts last reading
 
+-- a text is read as one thing only
+abbrev pub ReadsOne : Type 0
+ReadsOne = (forms : Forms) (bytes : List ℕ) (one other : Reading) → IsReadAs forms bytes one → IsReadAs forms bytes other → one ≡ other
+
 -- the bytes spell the trace
 abbrev pub SpellsTrace : Forms → List ℕ → Trace → Type 0
 SpellsTrace forms bytes trace = IsReadAs forms bytes (Whole trace.lines.items (map name_bytes trace.names.items))

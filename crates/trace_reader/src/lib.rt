@@ -23,4 +23,4 @@ pub use acts::{Act, Forms, PoolOption, TraceCall, TraceLine, What};
 pub use first::{FirstAct, first_traces_are_clear, read_first};
 pub use names::{BoundName, ThreadName};
 pub use refusal::{Fault, TraceError, TraceRefused};
-pub use trace::{Trace, read_trace};
+pub use trace::{Trace, read_trace, traces_are_clear};

@@ -2,7 +2,7 @@
 ghost use Rattle.std.specs.Prelude.{◌≡◌, ◌<◌, ◌≤◌, ◌+◌, ◌^◌, ℕ, List, map, length, IfOk, true, false};
 ghost use Rattle.trace_reader.specs.Words.{items_of};
 ghost use Rattle.trace_reader.specs.Contexts.{before_of};
-ghost use Rattle.trace_reader.specs.Text.{ReadsLine, ReadsTrace, is_skipped};
+ghost use Rattle.trace_reader.specs.Text.{ReadsLine, ReadsOne, ReadsTrace, is_skipped};
 ghost use Rattle.trace_reader.specs.Steps.{AddsLine, AreReadAs};
 
 use crate::acts::{Act, Forms, TraceLine};
@@ -149,6 +149,13 @@ pub fn read_trace(alloc: Global, bytes: &[u8], forms: Forms) -> Result<Trace, Tr
         })),
     }
 }
+
+/// The law of the traces: a text is read as one thing only. So it spells one trace at most, and none where a line of it is
+/// refused, and one line is refused at most, with one kind. What `read_trace` answers is settled by the bytes and the
+/// forms, but for memory.
+pub fn traces_are_clear()
+    ensures { ReadsOne }
+{}
 
 #[cfg(test)]
 mod tests;
