@@ -2,3 +2,14 @@ pub mod WordLemmas
 pub mod NumberLemmas
 pub mod FirstLemmas
 pub mod FirstLaws
+pub mod SlotLemmas
+pub mod OptionLemmas
+pub mod RowLemmas
+pub mod ThreadLemmas
+pub mod ContextLemmas
+pub mod TextLemmas
+pub mod OneWord
+pub mod OneSlot
+pub mod OneOption
+pub mod OneLine
+pub mod OneText

@@ -1,5 +1,5 @@
 -- Numbers and their texts.
-use Rattle.std.proofs.Common.{zero, suc, rules, ◌≡◌, ◌≢◌, ℕ, ◌<◌, ◌≤◌, ◌^◌, List, length, get_or, sym, ◌∙◌, ap, subst, arith}
+use Rattle.std.proofs.Common.{inl, inr, ◌⊎◌, zero, suc, rules, ◌≡◌, ◌≢◌, ℕ, ◌<◌, ◌≤◌, ◌^◌, List, length, get_or, sym, ◌∙◌, ap, subst, arith}
 use Rattle.std.specs.Prelude.{Result, Ok, Err}
 use Rattle.std.specs.Fmt.{decimal}
 use Rattle.std.specs.Str.{IsUtf8}
@@ -9,7 +9,8 @@ use Rattle.std.proofs.lemmas.Str.Parse.{IsNumeralModel, numerals_by_value, tells
 use Rattle.std.proofs.lemmas.Fmt.{IsAscii-decimal, parse-decimal, decimal_injective, decimal_nonempty, decimal_digit, first_decimal, digits_decimal, decimal-digits_value}
 use Rattle.trace_reader.specs.Words.{IsPlain}
 
-own : IsNumeralModel (AllDigits 10) (digits_value 10)
+-- std's own words for digits
+pub own : IsNumeralModel (AllDigits 10) (digits_value 10)
 own = numerals_by_value (AllDigits 10) tells_digits
 
 -- a number's text begins with a zero only where it is `0`
@@ -51,3 +52,11 @@ not_plain word none n small is = none (subst IsPlain (sym is) (IsPlain-decimal n
 -- a word spells one number
 pub one_number : (word : List ℕ) (number : ℕ) → (word ≡ decimal number) × (number < 2 ^ 64) → 8128 < number → (size : ℕ) → size ≤ 8128 → word ≢ decimal size
 one_number word number is large size small same = absurd (omega (arith, decimal_injective number size is.1 (omega arith) (sym is.0 ∙ same)))
+
+-- a word that spells one number spells no other
+pub other_number : (word : List ℕ) (number n : ℕ) → (word ≡ decimal number) × (number < 2 ^ 64) → n < 2 ^ 64 → number ≢ n → word ≢ decimal n
+other_number word number n is small other same = other (decimal_injective number n is.1 small (sym is.0 ∙ same))
+
+-- a word that spells a number outside a range spells none in it
+pub number_outside : (word : List ℕ) (number low high : ℕ) → (word ≡ decimal number) × (number < 2 ^ 64) → (number < low) ⊎ (high < number) → high < 2 ^ 64 → (n : ℕ) → low ≤ n → n ≤ high → word ≢ decimal n
+number_outside word number low high is outside small n from to = other_number word number n is (omega arith) (λ same. elim outside [ inl below ↦ omega arith | inr above ↦ omega arith ])

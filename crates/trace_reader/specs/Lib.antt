@@ -1,3 +1,13 @@
 pub mod Words
 pub mod Names
 pub mod First
+pub mod Faults
+pub mod Keywords
+pub mod Forms
+pub mod Slots
+pub mod Contexts
+pub mod Options
+pub mod Rows
+pub mod Acts
+pub mod Text
+pub mod Steps

@@ -1,21 +1,33 @@
 //! The names of threads, and those that a trace binds.
-ghost use Rattle.std.specs.Prelude.{◌≡◌, ◌≢◌, ◌≤◌, true, false};
+ghost use Rattle.std.specs.Prelude.{◌≡◌, ◌≢◌, ◌≤◌, true, false, IsTrue, ◌↔◌};
 ghost use Rattle.std.specs.List.{list_all};
-ghost use Rattle.trace_reader.specs.Names.{IsThreadNameOf, IsBoundNameOf, is_name, may_follow};
+ghost use Rattle.trace_reader.specs.Names.{IsThreadName, IsThreadNameOf, IsBoundNameOf, is_name, may_follow};
 
 use crate::words::is_same;
 use arrayvec::ArrayVec;
 
 /// A thread's name: a letter A to Z, and then up to seven of A to Z, 0 to 9 and `_`.
-#[derive(Drop)]
+#[derive(Default, Drop)]
 pub struct ThreadName {
     pub bytes: ArrayVec<u8, 8>,
 }
 
 /// The name of what a call answered: a letter a to z, and then up to 15 of a to z, 0 to 9 and `_`. It is not `null`.
-#[derive(Drop)]
+#[derive(Drop, Hash, PartialEq, Eq)]
 pub struct BoundName {
     pub bytes: ArrayVec<u8, 16>,
+}
+
+impl BoundName {
+    /// The same name again.
+    pub fn duplicate(&self) -> BoundName
+        ensures { result.bytes.items ≡ self.now.bytes.items }
+    {
+        let Ok(bytes) = ArrayVec::try_from(self.bytes.as_slice()) else {
+            unreachable!();
+        };
+        BoundName { bytes }
+    }
 }
 
 /// Whether the byte may stand behind the first letter of a name, whose letters begin at this one.
@@ -50,11 +62,18 @@ fn is_a_name(first: u8, most: usize, word: &[u8]) -> bool
     }
 }
 
+/// Whether the word is spelled as a thread's name.
+pub fn is_thread_name(word: &[u8]) -> bool
+    ensures { IsTrue result ↔ IsThreadName word.now }
+{
+    is_a_name(b'A', 8, word)
+}
+
 /// The thread's name that the word spells.
 pub fn read_thread_name(word: &[u8]) -> Option<ThreadName>
     ensures { IsThreadNameOf word.now result }
 {
-    if !is_a_name(b'A', 8, word) {
+    if !is_thread_name(word) {
         return None;
     }
     let bytes = ArrayVec::try_from(word).ok()?;

@@ -1,5 +1,6 @@
 //! Why a trace is refused.
 ghost use Rattle.std.specs.Prelude.{◌≡◌};
+ghost use Rattle.trace_reader.specs.Faults.{kind_of};
 
 use std::alloc::AllocError;
 
@@ -25,5 +26,56 @@ impl From<AllocError> for TraceRefused {
 
     fn from(_error: AllocError) -> TraceRefused {
         TraceRefused::NoMemory
+    }
+}
+
+/// What is wrong with a line. This project's own, as the numbers of the kinds are.
+#[derive(Clone, Copy, Debug, PartialEq, Eq)]
+pub enum Fault {
+    /// A word is missing, left over or unknown, or not spelled as its place asks. Kind 1.
+    Spelling,
+    /// A number is none, or is out of its range. Kind 2.
+    Number,
+    /// No earlier pool line has the pool. Kind 3.
+    UnknownPool,
+    /// No thread has the name. Kind 4.
+    UnknownThread,
+    /// No earlier line binds the name. Kind 5.
+    UnboundName,
+    /// An earlier line has bound the name. Kind 6.
+    BoundBefore,
+    /// A pool line does not make the next pool, or has an option twice. Kind 7.
+    PoolOrder,
+    /// A thread is named twice, or a line names threads after another or after a pool line. Kind 8.
+    ThreadsAgain,
+    /// More than 64 threads, 8 pools or 65536 lines. Kind 9.
+    TooMany,
+    /// More than 1024 bytes before the newline. Kind 10.
+    TooLong,
+    /// The last line has no newline. Kind 11.
+    NoNewline,
+    /// The form is not served. Kind 12.
+    NotServed,
+}
+
+impl Fault {
+    /// The number of the kind.
+    pub fn kind(self) -> u8
+        ensures { result ≡ kind_of self }
+    {
+        match self {
+            Fault::Spelling => 1,
+            Fault::Number => 2,
+            Fault::UnknownPool => 3,
+            Fault::UnknownThread => 4,
+            Fault::UnboundName => 5,
+            Fault::BoundBefore => 6,
+            Fault::PoolOrder => 7,
+            Fault::ThreadsAgain => 8,
+            Fault::TooMany => 9,
+            Fault::TooLong => 10,
+            Fault::NoNewline => 11,
+            Fault::NotServed => 12,
+        }
     }
 }

@@ -1,0 +1,61 @@
+-- Words in their places.
+use Rattle.std.proofs.Common.{◌≡◌, ◌≢◌, ℕ, suc, add-one, ◌+◌, ◌<◌, ◌^◌, List, [], ◌∷◌, ◌++◌, length, get_or, take, drop, drop-cons, map, refl, rules, sym, ◌∙◌, ap, arith}
+use Rattle.std.specs.Prelude.{slice_get, option_map, Some}
+use Rattle.std.specs.Fmt.{decimal}
+use Rattle.std.proofs.lemmas.List.{take-append-drop, length-take-le, get_or-take}
+use Rattle.std.proofs.lemmas.Option.{slice_get-map, slice_get-get_or}
+use Rattle.std.proofs.lemmas.Str.Parse.{not_in_digits}
+use Rattle.std.proofs.lemmas.Fmt.{digits_decimal}
+use Rattle.trace_reader.proofs.NumberLemmas.{own}
+use Rattle.trace_reader.specs.Slots.{HasNo, pair_text}
+
+-- what stands at a place of a list's image
+pub slice_map_at : {A B : Type 0} (f : A → B) (xs : List A) (i : ℕ) (d : A) → i < length xs → slice_get (map f xs) i ≡ Some (f (get_or xs i d))
+slice_map_at f xs i d below = slice_get-map f xs i ∙ ap (λ o. option_map f o) (slice_get-get_or xs i d below)
+
+-- what stands behind each place up to this one
+HasNo-rest : (byte first : ℕ) (text : List ℕ) → HasNo byte (first ∷ text) → HasNo byte text
+HasNo-rest byte first text none = λ k below. none (suc k) (omega arith)
+
+-- a text is parted at its first such byte in one way
+pub one_front : (byte : ℕ) (xs ys us vs : List ℕ) → HasNo byte xs → HasNo byte us → xs ++ byte ∷ ys ≡ us ++ byte ∷ vs → (xs ≡ us) × (ys ≡ vs)
+one_front byte [] ys [] vs none free same = (refl, let h : byte ∷ ys ≡ byte ∷ vs = same in cc)
+one_front byte [] ys (u ∷ us) vs none free same = absurd (free 0 (omega arith) (let h : byte ∷ ys ≡ u ∷ (us ++ byte ∷ vs) = same in cc))
+one_front byte (x ∷ xs) ys [] vs none free same = absurd (none 0 (omega arith) (let h : x ∷ (xs ++ byte ∷ ys) ≡ byte ∷ vs = same in cc))
+one_front byte (x ∷ xs) ys (u ∷ us) vs none free same =
+    let h : x ∷ (xs ++ byte ∷ ys) ≡ u ∷ (us ++ byte ∷ vs) = same in
+    let rest : xs ++ byte ∷ ys ≡ us ++ byte ∷ vs = cc in
+    let heads : x ≡ u = cc in
+    let tails = one_front byte xs ys us vs (HasNo-rest byte x xs none) (HasNo-rest byte u us free) rest in
+    (ap (λ (f : ℕ). f ∷ xs) heads ∙ ap (λ (r : List ℕ). u ∷ r) tails.0, tails.1)
+
+-- a text is parted at a byte that no earlier one equals
+pub parted_there : (byte : ℕ) (text : List ℕ) (i : ℕ) → i < length text → get_or text i 0 ≡ byte → ((k : ℕ) → k < i → get_or text k 0 ≢ byte) →
+    (text ≡ take i text ++ byte ∷ drop (i + 1) text) × HasNo byte (take i text)
+parted_there byte text i below is none = (
+  sym (take-append-drop i text) ∙ ap (λ (rest : List ℕ). take i text ++ rest) (rw add-one (drop-cons text i 0 below) ∙ ap (λ (b : ℕ). b ∷ drop (i + 1) text) is),
+  λ k inside. let low : k < i = omega (arith, length-take-le i text) in rw get_or-take (none k low),
+)
+
+-- a text without the byte is not parted by it
+pub not_parted : (byte : ℕ) (front rest : List ℕ) → HasNo byte (front ++ byte ∷ rest) → ⊥
+not_parted byte [] rest none = none 0 (omega arith) refl
+not_parted byte (first ∷ front) rest none = not_parted byte front rest (HasNo-rest byte first (front ++ byte ∷ rest) none)
+
+-- a number's text has no plus
+pub HasNo-decimal : (n : ℕ) → n < 2 ^ 64 → HasNo 43 (decimal n)
+HasNo-decimal n small = not_in_digits own (decimal n) 43 (digits_decimal own n small) (search rules)
+
+-- a text that is parted at its first plus spells two numbers only where its parts do
+pub pair_parts : (text front rest : List ℕ) (region offset : ℕ) → text ≡ front ++ 43 ∷ rest → HasNo 43 front → region < 2 ^ 64 → text ≡ pair_text region offset → (front ≡ decimal region) × (rest ≡ decimal offset)
+pair_parts text front rest region offset parted none small spelled =
+    one_front 43 front rest (decimal region) (decimal offset) none (HasNo-decimal region small) (sym parted ∙ spelled)
+
+-- an item of the list is another one
+pub not_at : {A : Type 0} (f : A → List ℕ) (items shown : List A) (i : ℕ) (other : A) (name : List ℕ) → shown ≡ items → i < length shown → other ≡ get_or shown i other → f other ≢ name →
+    slice_get (map f items) i ≢ Some name
+not_at {A} f items shown i other name whole below is differs found =
+    let at : slice_get (map f shown) i ≡ Some (f (get_or shown i other)) = slice_map_at f shown i other below in
+    let there : slice_get (map f shown) i ≡ Some name = ap (λ (ns : List A). slice_get (map f ns) i) whole ∙ found in
+    let same : f (get_or shown i other) ≡ name = cc in
+    differs (ap f is ∙ same)

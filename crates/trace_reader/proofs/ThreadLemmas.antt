@@ -1,0 +1,50 @@
+-- The names of a line, one after another.
+use Rattle.std.proofs.Common.{◌≡◌, ℕ, zero, suc, ◌+◌, ◌<◌, ◌≤◌, inl, inr, Bool, List, [], ◌∷◌, ◌++◌, length, get_or, take, map, refl, sym, ◌∙◌, ap, subst, arith, Vec, Global}
+use Rattle.std.specs.Prelude.{Result, Ok, Err, slice_get, Some, None}
+use Rattle.std.specs.declared.option.Option.{Option}
+use Rattle.std.proofs.lemmas.List.{take_more, map-append, length-append}
+use Rattle.trace_reader.specs.declared.refusal.Fault.{Fault}
+use Rattle.trace_reader.specs.declared.acts.Act.{Act}
+use Rattle.trace_reader.specs.declared.acts.Act.TheVariants as act
+use Rattle.trace_reader.specs.Words.{items_of}
+use Rattle.trace_reader.specs.Names.{IsThreadName}
+use Rattle.trace_reader.specs.Acts.{ReadsName, ReadsNames, AreThreadNames}
+
+-- the words up to a place, with the word there
+pub words_to : (words : List (Vec ℕ Global)) (i : ℕ) (word : Vec ℕ Global) (text : List ℕ) → i < length words → text ≡ word.items → word ≡ get_or words i word →
+    map items_of (take (i + 1) words) ≡ map items_of (take i words) ++ text ∷ []
+words_to words i word text below is there =
+    ap (map items_of) (take_more words i word below) ∙ map-append items_of (take i words) (get_or words i word ∷ [])
+    ∙ ap (λ (w : List ℕ). map items_of (take i words) ++ w ∷ []) (ap items_of (sym there) ∙ sym is)
+
+-- one name of a line was refused
+pub name_refused : (more : Bool) (had words rest : List (List ℕ)) (word : List ℕ) (fault : Fault) → words ≡ word ∷ rest → ReadsName more had word (Err fault) → ReadsNames more had words (Err fault)
+name_refused more had words rest word fault is reads = subst (λ (ws : List (List ℕ)). ReadsNames more had ws (Err fault)) (sym is) (inl (fault, reads, refl))
+
+-- one more name of a line
+pub name_more : (more : Bool) (had next words rest : List (List ℕ)) (word : List ℕ) (result : Result Act Fault) → words ≡ word ∷ rest → ReadsName more had word (Ok word) → next ≡ had ++ word ∷ [] →
+    ReadsNames more next rest result → ReadsNames more had words result
+name_more more had next words rest word result is reads whole reads_rest = subst (λ (ws : List (List ℕ)). ReadsNames more had ws result) (sym is)
+    (inr (word, reads, subst (λ (ns : List (List ℕ)). ReadsNames more ns rest result) whole reads_rest))
+
+-- words that were read as the names of the threads are names
+each_name : (more : Bool) (had words : List (List ℕ)) → ReadsNames more had words (Ok act.Threads) → (k : ℕ) (word : List ℕ) → slice_get words k ≡ Some word → IsThreadName word
+each_name more had [] reads k word is = let h : ◌≡◌ {A = Option (List ℕ)} None (Some word) = is in absurd (cc)
+each_name more had (first ∷ words) reads zero word is = elim reads [
+  | inl refused ↦ let h : ◌≡◌ {A = Result Act Fault} (Ok act.Threads) (Err refused.0) = refused.2 in absurd (cc)
+  | inr read ↦ let j : ◌≡◌ {A = Option (List ℕ)} (Some first) (Some word) = is in let h : first ≡ word = cc in subst IsThreadName h read.1.3
+]
+each_name more had (first ∷ words) reads (suc k) word is = elim reads [
+  | inl refused ↦ let h : ◌≡◌ {A = Result Act Fault} (Ok act.Threads) (Err refused.0) = refused.2 in absurd (cc)
+  | inr read ↦ each_name more (had ++ first ∷ []) words read.2 k word is
+]
+
+few_names : (more : Bool) (had words : List (List ℕ)) → length had ≤ 64 → ReadsNames more had words (Ok act.Threads) → length had + length words ≤ 64
+few_names more had [] few reads = omega arith
+few_names more had (first ∷ words) few reads = elim reads [
+  | inl refused ↦ let h : ◌≡◌ {A = Result Act Fault} (Ok act.Threads) (Err refused.0) = refused.2 in absurd (cc)
+  | inr read ↦ omega (arith, read.1.2, length-append had (first ∷ []), few_names more (had ++ first ∷ []) words (omega (arith, read.1.2, length-append had (first ∷ []))) read.2)
+]
+
+pub are_names : (more : Bool) (words : List (List ℕ)) → ReadsNames more [] words (Ok act.Threads) → AreThreadNames words
+are_names more words reads = record { names = each_name more [] words reads; few = omega (arith, few_names more [] words (omega arith) reads) }

@@ -1,0 +1,7 @@
+use Rattle.std.proofs.Common.{◌≡◌, take, map}
+use Rattle.trace_reader.specs.Words.{items_of}
+use Rattle.trace_reader.specs.Contexts.{name_bytes}
+use Rattle.trace_reader.proofs.threads.thread_names.Given as goal
+
+abbrev pub invariant-loop-word : goal.invariant-loop-word
+invariant-loop-word l = map name_bytes l.names.items ≡ map items_of (take l.word-index l.words)

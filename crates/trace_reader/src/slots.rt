@@ -1,0 +1,249 @@
+//! One word of a line, in its place.
+ghost use Rattle.std.specs.Prelude.{◌≡◌, ◌≢◌, ◌≤◌, ◌<◌, ◌^◌, ◌-◌, ◌+◌, true, false, map, MatchResult, MatchOption, List, ℕ, ◌++◌, ◌∷◌, slice_get, Some, None, IsTrue, ◌↔◌, length};
+ghost use Rattle.std.specs.List.{list_all};
+ghost use Rattle.trace_reader.specs.Words.{items_of};
+ghost use Rattle.trace_reader.specs.Forms.{WordAt, Ends};
+ghost use Rattle.trace_reader.specs.Slots.{IsMisread, ReadsNumber, ReadsSize, ReadsThread, ReadsPool, ReadsNextPool, ReadsNewName, ReadsWhat, IsPoolOf, IsPairOf, IsPlaceOf, HasNo, is_text, is_printable};
+ghost use Rattle.trace_reader.specs.Contexts.{before_of};
+
+use crate::acts::What;
+use crate::before::Context;
+use crate::names::{BoundName, is_thread_name, read_bound_name};
+use crate::numbers::read_number;
+use crate::refusal::Fault;
+use crate::words::is_same;
+use pool_types::Place;
+
+/// The word at this place.
+pub fn word_at(words: &[Vec<u8>], at: usize) -> Result<&[u8], Fault>
+    ensures { MatchResult result (λ word. slice_get (map items_of words.now) at ≡ Some word.now)
+        (λ fault. (slice_get (map items_of words.now) at ≡ None) × (fault ≡ Fault.Spelling)) }
+{
+    match words.get(at) {
+        Some(word) => Ok(word.as_slice()),
+        None => Err(Fault::Spelling),
+    }
+}
+
+/// Whether the byte is one from space to `~`.
+fn is_readable(byte: u8) -> bool
+    ensures { result ≡ is_printable byte }
+{
+    b' ' <= byte && byte <= b'~'
+}
+
+/// Whether all these bytes are readable.
+fn are_readable(bytes: &[u8]) -> bool
+    ensures { result ≡ list_all is_printable bytes.now }
+{
+    bytes.iter().all(|byte| is_readable(*byte))
+}
+
+/// Whether the word is not empty, and all its bytes are readable.
+fn is_all_readable(word: &[u8]) -> bool
+    ensures { result ≡ is_text word.now }
+{
+    match word {
+        [] => false,
+        [first, more @ ..] => is_readable(*first) && are_readable(more),
+    }
+}
+
+/// What is wrong with a word that is no number, where one is due.
+pub fn misread(word: &[u8]) -> Fault
+    ensures { IsMisread word.now result }
+{
+    if is_all_readable(word) {
+        Fault::Number
+    } else {
+        Fault::Spelling
+    }
+}
+
+/// The number in this range that the word spells.
+pub fn number_in(low: u64, high: u64, word: &[u8]) -> Result<u64, Fault>
+    ensures { ReadsNumber low high word.now result }
+{
+    let Some(number) = read_number(word) else {
+        return Err(misread(word));
+    };
+    if number < low || high < number {
+        return Err(misread(word));
+    }
+    Ok(number)
+}
+
+/// The number in this range at this place.
+pub fn number_at(words: &[Vec<u8>], at: usize, low: u64, high: u64) -> Result<u64, Fault>
+    ensures { WordAt (ReadsNumber low high) (map items_of words.now) at result }
+{
+    number_in(low, high, word_at(words, at)?)
+}
+
+/// The pool whose word this is, from 0 to 7.
+fn pool_of(word: &[u8]) -> Option<u16>
+    ensures { IsPoolOf word.now result }
+{
+    if word.len() == 2 && word[0] == b'P' && b'0' <= word[1] && word[1] < b'8' {
+        Some(u16::from(word[1] - b'0'))
+    } else {
+        None
+    }
+}
+
+/// The pool that was made, at this place.
+pub fn pool_at(context: &Context, words: &[Vec<u8>], at: usize) -> Result<u16, Fault>
+    ensures { WordAt (ReadsPool (before_of context.now)) (map items_of words.now) at result }
+{
+    let Some(pool) = pool_of(word_at(words, at)?) else {
+        return Err(Fault::Spelling);
+    };
+    if pool < context.pools {
+        Ok(pool)
+    } else {
+        Err(Fault::UnknownPool)
+    }
+}
+
+/// The next pool, at this place.
+pub fn next_pool_at(context: &Context, words: &[Vec<u8>], at: usize) -> Result<u16, Fault>
+    ensures { WordAt (ReadsNextPool (before_of context.now)) (map items_of words.now) at result }
+{
+    let word = word_at(words, at)?;
+    if 8 <= context.pools {
+        return Err(Fault::TooMany);
+    }
+    let Some(pool) = pool_of(word) else {
+        return Err(Fault::Spelling);
+    };
+    if pool == context.pools {
+        Ok(pool)
+    } else {
+        Err(Fault::PoolOrder)
+    }
+}
+
+/// The name that is bound here, at this place.
+pub fn new_name_at(context: &Context, words: &[Vec<u8>], at: usize) -> Result<BoundName, Fault>
+    ensures { WordAt (ReadsNewName (before_of context.now)) (map items_of words.now) at result }
+{
+    let Some(name) = read_bound_name(word_at(words, at)?) else {
+        return Err(Fault::Spelling);
+    };
+    if context.has_bound(&name) {
+        Err(Fault::BoundBefore)
+    } else {
+        Ok(name)
+    }
+}
+
+/// The size at this place, where sizes above the small ones are served or not.
+pub fn size_at(all: bool, words: &[Vec<u8>], at: usize) -> Result<u64, Fault>
+    ensures { WordAt (ReadsSize all) (map items_of words.now) at result }
+{
+    let size = number_in(0, u64::MAX, word_at(words, at)?)?;
+    if all || size <= 8128 {
+        Ok(size)
+    } else {
+        Err(Fault::NotServed)
+    }
+}
+
+/// The thread at this place.
+pub fn thread_at(context: &Context, words: &[Vec<u8>], at: usize) -> Result<u8, Fault>
+    ensures { WordAt (ReadsThread (before_of context.now)) (map items_of words.now) at result }
+{
+    let word = word_at(words, at)?;
+    if !is_thread_name(word) {
+        return Err(Fault::Spelling);
+    }
+    match context.position(word) {
+        Some(thread) => Ok(thread),
+        None => Err(Fault::UnknownThread),
+    }
+}
+
+/// What stands before the first plus, and what behind it.
+fn parted_at_plus(text: &[u8]) -> Option<(&[u8], &[u8])>
+    ensures { MatchOption result ((front rest : List ℕ) → text.now ≢ front ++ 43 ∷ rest)
+        (λ parts. (text.now ≡ parts.0.now ++ 43 ∷ parts.1.now) × HasNo 43 parts.0.now) }
+{
+    for (i, byte) in text.iter().enumerate() {
+        if *byte == b'+' {
+            return Some((&text[..i], &text[i + 1..]));
+        }
+    }
+    None
+}
+
+/// The numbers of a region and an offset, with a plus between them.
+fn read_pair(text: &[u8]) -> Option<(u32, u64)>
+    ensures { IsPairOf text.now result }
+{
+    let Some((front, rest)) = parted_at_plus(text) else {
+        return None;
+    };
+    let Ok(region) = number_in(0, 4194303, front) else {
+        return None;
+    };
+    let Some(offset) = read_number(rest) else {
+        return None;
+    };
+    Some((region as u32, offset))
+}
+
+/// The place that the word spells.
+fn read_place(word: &[u8]) -> Option<Place>
+    ensures { IsPlaceOf word.now result }
+{
+    let [letter, digit, dot, mark, rest @ ..] = word else {
+        return None;
+    };
+    if *letter != b'P' || *digit < b'0' || b'8' <= *digit || *dot != b'.' || *mark != b'R' {
+        return None;
+    }
+    let (region, offset) = read_pair(rest)?;
+    Some(Place {
+        pool: u16::from(*digit - b'0'),
+        region,
+        offset,
+    })
+}
+
+/// What the word stands for.
+fn read_what(context: &Context, word: &[u8]) -> Result<What, Fault>
+    ensures { ReadsWhat (before_of context.now) word.now result }
+{
+    if is_same(word, b"null") {
+        return Ok(What::Null);
+    }
+    if let Some(name) = read_bound_name(word) {
+        return if context.has_bound(&name) {
+            Ok(What::Name(name))
+        } else {
+            Err(Fault::UnboundName)
+        };
+    }
+    match read_place(word) {
+        Some(place) => Ok(What::Place(place)),
+        None => Err(Fault::Spelling),
+    }
+}
+
+/// What the word at this place stands for.
+pub fn what_at(context: &Context, words: &[Vec<u8>], at: usize) -> Result<What, Fault>
+    ensures { WordAt (ReadsWhat (before_of context.now)) (map items_of words.now) at result }
+{
+    read_what(context, word_at(words, at)?)
+}
+
+/// Nothing stands at this place or behind it.
+pub fn end_at(words: &[Vec<u8>], at: usize) -> Result<(), Fault>
+    ensures { MatchResult result (λ _. length words.now ≤ at) (λ fault. (fault ≡ Fault.Spelling) × (at < length words.now)) }
+{
+    if at < words.len() {
+        Err(Fault::Spelling)
+    } else {
+        Ok(())
+    }
+}

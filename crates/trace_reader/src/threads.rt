@@ -1,0 +1,84 @@
+//! A line that names the threads.
+ghost use Rattle.std.specs.Prelude.{◌≡◌, ◌≢◌, ◌<◌, ◌≤◌, ℕ, [], true, false, map, drop, length, slice_get, Some};
+ghost use Rattle.trace_reader.specs.Words.{items_of};
+ghost use Rattle.trace_reader.specs.Acts.{AreThreadNames, IsNameJudged, KeywordLine, ReadsNames};
+ghost use Rattle.trace_reader.specs.Contexts.{before_of, name_bytes};
+ghost use Rattle.trace_reader.specs.declared.keywords.Keyword.TheVariants.{ThreadsWord};
+
+use crate::acts::Act;
+use crate::before::Context;
+use crate::names::{ThreadName, is_thread_name, read_thread_name};
+use crate::refusal::Fault;
+use crate::words::is_same;
+use arrayvec::ArrayVec;
+
+/// Whether the word stands among these.
+fn is_among(words: &[Vec<u8>], word: &[u8]) -> bool
+    ensures yes { result ≡ true → (k : ℕ) × (slice_get (map items_of words.now) k ≡ Some word.now) }
+    ensures no { result ≡ false → (k : ℕ) → slice_get (map items_of words.now) k ≢ Some word.now }
+{
+    for other in words {
+        if is_same(other.as_slice(), word) {
+            return true;
+        }
+    }
+    false
+}
+
+/// Whether the word may stand as a name behind these.
+fn judge_name(more: bool, had: &[Vec<u8>], word: &[u8]) -> Result<(), Fault>
+    ensures { IsNameJudged more (map items_of had.now) word.now result }
+{
+    if !had.is_empty() && !more {
+        return Err(Fault::NotServed);
+    }
+    if 64 <= had.len() {
+        return Err(Fault::TooMany);
+    }
+    if !is_thread_name(word) {
+        return Err(Fault::Spelling);
+    }
+    if is_among(had, word) {
+        return Err(Fault::ThreadsAgain);
+    }
+    Ok(())
+}
+
+/// A line of these names.
+fn names_line(more: bool, names: &[Vec<u8>]) -> Result<Act, Fault>
+    ensures { ReadsNames more [] (map items_of names.now) result }
+{
+    for (i, name) in names.iter().enumerate() {
+        judge_name(more, &names[..i], name.as_slice())?;
+    }
+    if names.is_empty() {
+        return Err(Fault::Spelling);
+    }
+    Ok(Act::Threads)
+}
+
+/// A line that names the threads.
+pub fn threads_line(more: bool, context: &Context, words: &[Vec<u8>]) -> Result<Act, Fault>
+    requires { 0 < length words.now }
+    ensures { KeywordLine more (before_of context.now) ThreadsWord (map items_of words.now) result }
+{
+    if !context.names.is_empty() || context.pools != 0 {
+        return Err(Fault::ThreadsAgain);
+    }
+    names_line(more, &words[1..])
+}
+
+/// The names that the words spell.
+pub fn thread_names(words: &[Vec<u8>]) -> ArrayVec<ThreadName, 64>
+    requires { AreThreadNames (map items_of words.now) }
+    ensures { map name_bytes result.items ≡ map items_of words.now }
+{
+    let mut names: ArrayVec<ThreadName, 64> = ArrayVec::new();
+    for word in words {
+        let Some(name) = read_thread_name(word.as_slice()) else {
+            unreachable!();
+        };
+        names.push(name);
+    }
+    names
+}
