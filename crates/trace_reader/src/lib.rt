@@ -1,6 +1,12 @@
 //! Reads a trace: the text that says what the threads of a replay do.
 //!
-//! A text is read whole or refused at its first refused line. The language is this project's own.
+//! A text is read whole or refused at its first refused line, with the first kind of what is wrong with it. The language
+//! is this project's own; `docs/trace.md` says what it is.
+//!
+//! Modules: `trace` (a whole text: `read_trace`), `line` and `calls` (the words of one line), `threads` and `options`
+//! (the two kinds of line of any length), `slots` (one word in its place), `keywords`, `rows`, `names`, `numbers` and
+//! `words` (what the words are made of), `before` (what stands before a line), `acts` and `refusal` (what reading gives).
+//! `first` is the reader of the first traces alone.
 #![tactic(auto)]
 
 mod acts;

@@ -139,7 +139,7 @@ pub fn read_trace(alloc: Global, bytes: &[u8], forms: Forms) -> Result<Trace, Tr
 {
     let mut texts = split_parts(alloc, b'\n', bytes)?;
     let Some(last) = texts.pop() else {
-        return Err(TraceRefused::NoMemory);
+        unreachable!();
     };
     match read_texts(alloc, forms, texts.as_slice(), last.as_slice())? {
         Outcome::AllRead(trace) => Ok(trace),

@@ -260,7 +260,7 @@ fn refuses_lines_that_are_too_long_or_too_many(rt: HostRuntime) -> Result<(), Fa
 #[test]
 fn gives_back_what_the_lines_do(rt: HostRuntime) -> Result<(), Fail> {
     let text =
-        b"threads A B2\n\npool P0 span=5\nB2 P0 x = malloc 8\nA P0 free P0.R1+16\nupto A P0 G4\n";
+        b"threads A B2\n\npool P0 span=5\nB2 P0 x = malloc 8\nA P0 free P0.R12+16\nupto A P0 G4\n";
     let trace = read_trace(rt.alloc(), text.as_slice(), Forms::All)
         .ok()
         .ok_or("refused")?;
@@ -295,7 +295,7 @@ fn gives_back_what_the_lines_do(rt: HostRuntime) -> Result<(), Fail> {
                 what: What::Place(place),
             },
             ..
-        } => assert_eq!(rt; (place.pool, place.region, place.offset), (0, 1, 16)),
+        } => assert_eq!(rt; (place.pool, place.region, place.offset), (0, 12, 16)),
         _ => return Err(Fail::from("no free")),
     }
     assert!(rt;
