@@ -46,6 +46,7 @@ scrap_is_new = record {
   right = λ some. absurd (omega arith);
   within = lit< tt;
   apart = λ other live. absurd (none_in other live);
+  some = lit< tt;
 }
 
 -- the progress before each step
@@ -130,7 +131,7 @@ scrap_refuses = record {
           served = Small 0;
           seen = 0;
           vain = record { later = _; steps = refl; still = refl; is = eight_is_small; vain = (refl, lit≤ tt, λ block member. absurd (none_in block member), (0, (refl, refl), refl)) };
-          found = (refl, lit< tt, refl, refl, refl);
+          found = (refl, (lit< tt, tt), refl, refl, refl);
           drained = λ alone. record {
             queue = scrap_held (λ holder. holder ≢ Some Queue) (λ e. cc) (λ e. cc);
             cache = λ byte granules. scrap_held (λ holder. holder ≢ Some (Cached granules)) (λ e. cc) (λ e. cc) byte;

@@ -59,6 +59,7 @@ mebibyte_is_new = record {
   right = λ some. refl;
   within = lit< tt;
   apart = λ other live. absurd (none_in other live);
+  some = lit< tt;
 }
 
 pub region_step : MayStep (fixed_pool 1048576) begun (step_of (coming_parts 0 0 mebibyte) [] (Some mebibyte) Nothing_seen None)

@@ -83,12 +83,15 @@ pub record HasRoom (terms : Terms) (state : State) (region : RegionRec) : Type 0
   pub run : HasFreeRun terms state (whole_granules region + 1)
   pub right : IsRightStart region run.from
 
+-- the pool may obtain a region: a fixed pool gets one and no more
+abbrev pub MayObtain : Terms → State → Type 0
+MayObtain terms state = terms.policy.fixed ≡ true → state.next ≡ 0
+
 -- the region can come
 pub record IsNewRegion (terms : Terms) (state : State) (region : RegionRec) : Type 0 where
   pub number : IsNextNumber state region.number
   pub below : region.number < 4194304
-  -- a fixed pool gets one region and no more
-  pub only : terms.policy.fixed ≡ true → state.next ≡ 0
+  pub only : MayObtain terms state
   -- its granules begin at the first address that is a multiple of 8192, and lie in it
   pub front : region.waste < 8192
   pub aligned : (region.region.base + region.waste) % 8192 ≡ 0
@@ -99,6 +102,7 @@ pub record IsNewRegion (terms : Terms) (state : State) (region : RegionRec) : Ty
   pub right : 0 < region.granules → IsRightStart region region.first
   pub within : region.first + region.granules < terms.limits.span
   pub apart : (other : RegionRec) → Contains state.regions other → IsApartRegion other region
+  pub some : 0 < region.region.bytes
 
 -- the longest run of free granule indices has so many
 pub record IsLongestRun (terms : Terms) (state : State) (indices : ℕ) : Type 0 where
