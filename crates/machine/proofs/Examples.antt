@@ -4,6 +4,7 @@ use Rattle.std.specs.Prelude.{Contains, if◌then◌else◌}
 use Rattle.std.specs.declared.option.Option.{Option}
 use Rattle.pool_types.specs.declared.values.Place.{Place}
 use Rattle.pool_types.specs.declared.values.Request.TheVariants.{Malloc}
+use Rattle.pool_types.specs.Policies.{IsAllowed}
 use Rattle.part_model.specs.declared.holders.Holder.{Holder}
 use Rattle.part_model.specs.declared.holders.Holder.TheVariants.{Waste, SlabCache, Cached, Bin, Queue, Hand}
 use Rattle.part_model.specs.declared.moves.Part.{Part}
@@ -78,6 +79,7 @@ scrap_comes = record {
   there = two_move 0 nothing_yet.held (front_range 0 scrap) (back_range 0 scrap) None (Some Waste) None (Some Waste) refl refl (λ byte inside. refl) (λ byte inside. refl);
   lawful = region_comes scrap scrap_is_new;
   fits = (tt, tt, tt);
+  moves = record { grants = tt; ends = (tt, (tt, tt)); keeps = refl };
 }
 
 -- a malloc of 8 bytes is for an object of the first class
@@ -143,8 +145,13 @@ scrap_refuses = record {
       no_slab = λ slab kept. absurd (none_in slab kept.0);
     },
   );
+  moves = record { grants = tt; ends = tt; keeps = refl };
 }
+
+-- the pool can be made
+pub small_pool_allowed : IsAllowed (fixed_pool 8192).policy (fixed_pool 8192).limits
+small_pool_allowed = record { valid = refl; supported = refl; limits_in = ((refl, refl, refl), refl) }
 
 -- the malloc in vain is a run
 pub malloc_in_vain_runs : IsRun (fixed_pool 8192) malloc_in_vain
-malloc_in_vain_runs = (record { seated = lit< tt; free = refl; serving = refl }, (scrap_comes, (scrap_refuses, tt)))
+malloc_in_vain_runs = (small_pool_allowed, (record { seated = lit< tt; free = refl; serving = refl }, (scrap_comes, (scrap_refuses, tt))))

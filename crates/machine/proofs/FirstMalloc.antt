@@ -4,6 +4,7 @@ use Rattle.std.specs.Prelude.{if◌then◌else◌}
 use Rattle.std.proofs.lemmas.Bool.{cases_Bool, cases_lt}
 use Rattle.pool_types.specs.declared.values.Place.{Place}
 use Rattle.pool_types.specs.declared.values.Answer.TheVariants.{Got}
+use Rattle.pool_types.specs.Policies.{IsAllowed}
 use Rattle.part_model.specs.declared.holders.Holder.TheVariants.{Head, Rest, Object, Bin, Hand}
 use Rattle.part_model.specs.declared.moves.Range.{Range}
 use Rattle.part_model.specs.Holding.{lies_in}
@@ -69,6 +70,7 @@ region_step = record {
   there = one_moves 0 nothing_yet.held all_range None (Some (Hand 0)) refl (λ byte inside. refl);
   lawful = region_comes mebibyte mebibyte_is_new;
   fits = (tt, tt, tt);
+  moves = record { grants = tt; ends = (tt, tt); keeps = refl };
 }
 
 -- a byte of the region is in hand
@@ -92,6 +94,7 @@ put_step = record {
     tt,
   );
   fits = (tt, tt, tt);
+  moves = record { grants = tt; ends = (tt, tt); keeps = refl };
 }
 
 -- what lies before the block in the bin is in hand still
@@ -120,6 +123,7 @@ slab_step = record {
     even = refl;
   });
   fits = (tt, tt, tt);
+  moves = record { grants = tt; ends = (tt, (tt, tt)); keeps = refl };
 }
 
 -- a byte of the object is rest before it is granted
@@ -188,9 +192,14 @@ grant_step = record {
       no_slab = λ slab kept. kept_by_seat slab kept.0 kept.1;
     },
   );
+  moves = record { grants = tt; ends = (tt, tt); keeps = refl };
 }
+
+-- the pool can be made
+pub pool_allowed : IsAllowed (fixed_pool 1048576).policy (fixed_pool 1048576).limits
+pool_allowed = record { valid = refl; supported = refl; limits_in = ((refl, refl, refl), refl) }
 
 -- the first malloc is a run
 pub first_malloc_runs : IsRun (fixed_pool 1048576) first_malloc
 unfolding class_size class_objects
-first_malloc_runs = (record { seated = lit< tt; free = refl; serving = refl }, (region_step, (put_step, (slab_step, (grant_step, tt)))))
+first_malloc_runs = (pool_allowed, (record { seated = lit< tt; free = refl; serving = refl }, (region_step, (put_step, (slab_step, (grant_step, tt))))))

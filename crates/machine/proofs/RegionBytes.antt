@@ -73,7 +73,7 @@ other_bytes_are pool held regions next sound other number none =
 -- the sum of the totals is the bytes of the regions
 pub runs_sum : RunsSum
 runs_sum terms events run =
-    let sound : IsSoundState terms (after_events no_progress events).state = sound_run terms no_progress events run (sound_nothing terms) in
+    let sound : IsSoundState terms (after_events no_progress events).state = sound_run terms no_progress events run.1 (sound_nothing terms) in
     let state : State = (after_events no_progress events).state in
     let both = totals_sum_is (after_events no_progress events).state.held in
     record {

@@ -289,7 +289,7 @@ sound_nothing terms = record {
 -- in a run each byte of each region has exactly one holder
 pub runs_have_one_holder : RunsHaveOneHolder
 runs_have_one_holder terms events run =
-    let sound : IsSoundState terms (after_events no_progress events).state = sound_run terms no_progress events run (sound_nothing terms) in
+    let sound : IsSoundState terms (after_events no_progress events).state = sound_run terms no_progress events run.1 (sound_nothing terms) in
     record {
       one = λ region live byte inside.
           holders_of-is (after_events no_progress events).state.held byte ((after_events no_progress events).state.held byte) refl

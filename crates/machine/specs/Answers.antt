@@ -105,7 +105,7 @@ AtSteps fact later (moment ∷ moments) = (fact moment.state × AtStep later mom
 -- one of the steps found that the raw callback failed
 abbrev pub Failed : List Moment → Type 0
 Failed [] = ⊥
-Failed (moment ∷ moments) = (moment.entry.seen ≡ Callback_failed) ⊎ Failed moments
+Failed (moment ∷ moments) = ((bytes : ℕ) × (moment.entry.seen ≡ Callback_failed bytes)) ⊎ Failed moments
 
 -- the place is a unit of 8 bytes of a live region's granules: objects can begin there
 pub record IsUnit (limits : Limits) (state : State) (place : Place) : Type 0 where
