@@ -1,5 +1,5 @@
 -- The two short runs are runs.
-use Rattle.std.proofs.Common.{◌∷◌, inl, ◌≡◌, ◌≢◌, [], Some, None, Bool, true, false, refl, arith, lit<, lit≤}
+use Rattle.std.proofs.Common.{◌∷◌, inl, ◌≡◌, ◌≢◌, ◌<◌, [], Some, None, Bool, true, false, refl, arith, lit<, lit≤}
 use Rattle.std.specs.Prelude.{Contains, if◌then◌else◌}
 use Rattle.std.specs.declared.option.Option.{Option}
 use Rattle.pool_types.specs.declared.values.Place.{Place}
@@ -48,6 +48,8 @@ scrap_is_new = record {
   within = lit< tt;
   apart = λ other live. absurd (none_in other live);
   some = lit< tt;
+  lowest = λ room. omega arith;
+  longest = λ fewer indices longest. absurd (let none : 0 < 0 = fewer in omega arith);
 }
 
 -- the progress before each step

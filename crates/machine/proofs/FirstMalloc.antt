@@ -61,6 +61,8 @@ mebibyte_is_new = record {
   within = lit< tt;
   apart = λ other live. absurd (none_in other live);
   some = lit< tt;
+  lowest = λ room. omega arith;
+  longest = λ fewer indices longest. absurd (let none : 128 < 128 = fewer in omega arith);
 }
 
 pub region_step : MayStep (fixed_pool 1048576) begun (step_of (coming_parts 0 0 mebibyte) [] (Some mebibyte) Nothing_seen None)

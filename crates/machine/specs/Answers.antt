@@ -184,7 +184,8 @@ IsBackendCause terms served earlier later seen (NoFit looks) =
     × (looks.first ≡ first_bin served) × (looks.last ≡ 511) × (looks.seen ≡ seen)
 IsBackendCause terms served earlier later seen cause = ⊥
 
--- no block waits in the queue or lies in the cache
+-- No block waits in the queue or lies in the cache. That the seat's slab cache is empty is said of a scan for a slab; of one for a block
+-- it isn't said yet.
 pub record NoneIsKept (state : State) : Type 0 where
   pub queue : (byte : Place) → state.held byte ≢ Some Queue
   pub cache : (byte : Place) (granules : ℕ) → state.held byte ≢ Some (Cached granules)

@@ -70,6 +70,11 @@ pub record HasFreeRun (terms : Terms) (state : State) (indices : ℕ) : Type 0 w
   pub within : from + indices ≤ terms.limits.span
   pub free : (index : ℕ) → from ≤ index → index < from + indices → IsIndexFree state index
 
+-- the longest run of free granule indices has so many
+pub record IsLongestRun (terms : Terms) (state : State) (indices : ℕ) : Type 0 where
+  pub free : HasFreeRun terms state indices
+  pub longest : (other : ℕ) → HasFreeRun terms state other → other ≤ indices
+
 -- how many granules fit into the region behind the waste in front
 abbrev pub whole_granules : RegionRec → ℕ
 whole_granules region = (region.region.bytes - region.waste) / 8192
@@ -103,11 +108,10 @@ pub record IsNewRegion (terms : Terms) (state : State) (region : RegionRec) : Ty
   pub within : region.first + region.granules < terms.limits.span
   pub apart : (other : RegionRec) → Contains state.regions other → IsApartRegion other region
   pub some : 0 < region.region.bytes
-
--- the longest run of free granule indices has so many
-pub record IsLongestRun (terms : Terms) (state : State) (indices : ℕ) : Type 0 where
-  pub free : HasFreeRun terms state indices
-  pub longest : (other : ℕ) → HasFreeRun terms state other → other ≤ indices
+  -- Of the places for all granules it has the lowest. Where there is none, it has as many granules as the longest free run has indices
+  -- but for the wall and at most one more; which run it lies in isn't said.
+  pub lowest : (room : HasRoom terms state region) → region.first ≤ room.run.from
+  pub longest : region.granules < whole_granules region → (indices : ℕ) → IsLongestRun terms state indices → indices ≤ region.granules + 2
 
 -- how many bytes the pool asks its callback for, where it needs so many granules
 abbrev pub asked_bytes : Terms → ℕ → ℕ

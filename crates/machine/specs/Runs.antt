@@ -125,7 +125,7 @@ IsOtherCall progress seat call = Contains progress.calls call × (call.seat ≢ 
 abbrev pub is_put : Part → Bool
 is_put part = is_at OfBin part.to
 
--- another call that is open has put the byte into bins
+-- another call that is open has put the byte into bins: at its last step that put any, or at one before
 abbrev pub IsJustPut : Progress → ℕ → Place → Type 0
 IsJustPut progress seat byte = (call : Call) × IsOtherCall progress seat call × (lies_in_parts byte (filter is_put (moved_parts call.moments)) ≡ true)
 
@@ -137,7 +137,8 @@ Touches one other =
 
 -- The lists of a look are those of the bins. Their blocks are whole granules and have no byte in common. Each is in bins, or another
 -- seat that is in a call has won it and not yet taken it out of its list. A byte in bins lies in one of them, unless another call that
--- is open has put its block and perhaps not yet linked it. As long as no two calls were open at once, no two blocks touch.
+-- is open has put its block and perhaps not yet linked it. As long as no two calls were open at once, no two blocks touch. Once two were,
+-- it isn't said at which of the granules in bins one block ends and the next begins.
 pub record AreLists (terms : Terms) (progress : Progress) (seat : ℕ) (lists : List Range) : Type 0 where
   pub whole : Each (λ block. (granules : ℕ) × IsGranules terms.limits progress.state block granules) lists
   pub disjoint : AreDisjoint lists
@@ -212,6 +213,8 @@ IsStepIn Ending entry = entry.region ≡ None
 
 -- What is asked of a step beside its move. In a call: that a large object is cut as it is served, that what the step found is so, and
 -- that its answer is legal. Outside of calls: that it is one of a reset or of the pool's end, which grant nothing and answer nothing.
+-- What isn't asked: that a region comes only after a scan in vain. That cleanups of the cache follow the clock's ticks is said where the
+-- clock is: the machine has none.
 abbrev pub IsStepOf : Terms → Progress → Entry → Option Call → Type 0
 IsStepOf terms progress entry (Some call) =
     OnTrue (list_any makes_large entry.parts) (IsCutFor terms progress.state call entry.parts)
