@@ -163,13 +163,14 @@ pub record LooksInVain (limits : Limits) (call : Call) (earlier : List Moment) (
   pub is : served_for call.request ≡ served
   pub vain : AreInVain limits served (first_bin served) (flat_map (λ moment. look_of moment.state moment.entry.seen) later) seen
 
--- At a step that might obtain a region the longest run of free granule indices had `greatest`, too few for the `asked` ones.
+-- At a step at which a region may be obtained the longest run of free granule indices had `greatest`, too few for the `asked` ones.
 pub record IsSpanFull (terms : Terms) (served : Served) (asked greatest : ℕ) (moments : List Moment) : Type 0 where
   pub longest : AtStep (λ state. MayObtain terms state × IsLongestRun terms state greatest) moments
   pub wanted : asked ≡ asked_indices terms (granules_for served)
   pub short : greatest < asked
 
--- At a step that might obtain a region `out` ones were live and `next` was the next number, and one of the two was at its limit.
+-- At a step at which a region may be obtained `out` regions were live and `next` was the next number, and one of the two was at its
+-- limit.
 pub record IsRegionsFull (terms : Terms) (out next : ℕ) (moments : List Moment) : Type 0 where
   pub there : AtStep (λ state. MayObtain terms state × (length state.regions ≡ out) × IsShownNumber state next) moments
   pub limit : (64 ≤ out) ⊎ (4194304 ≤ next)

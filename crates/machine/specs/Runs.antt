@@ -224,13 +224,13 @@ IsStepOf terms progress entry None =
     IsStepIn progress.phase entry × (entry.seat < terms.limits.seats)
     × (granted entry.parts ≡ []) × (entry.seen ≡ Nothing_seen) × (entry.answer ≡ None)
 
--- a part may be out of an object only where it is out of the one at the place that the request frees, or out of one that the call granted
+-- a part out of an object is out of the one at the place that the request frees, or out of one that the call granted
 abbrev pub MayEnd : Call → Part → Type 0
 MayEnd call part =
     OnTrue (is_object part.from)
     ((place_to_free call.request ≡ Some part.range.place) ⊎ (list_any (λ earlier. same_object earlier.to part.from) (moved_parts call.moments) ≡ true))
 
--- What a call may move before it is answered, too: it grants an object only where its request wants one, and ends none but the one that
+-- What a step of a call may move, be the call answered or not: it grants an object only where its request wants one, and ends none but the one that
 -- its request frees and those that it granted. A fixed pool, and one that keeps its memory, lets no region go in a call.
 pub record IsMoveOf (terms : Terms) (call : Call) (parts : List Part) : Type 0 where
   pub grants : OnTrue (not (wants_object call.request)) (granted parts ≡ [])
