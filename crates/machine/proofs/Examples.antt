@@ -1,9 +1,10 @@
 -- The two short runs are runs.
-use Rattle.std.proofs.Common.{◌∷◌, inl, ◌≡◌, ◌≢◌, [], Some, None, Bool, true, false, refl, arith, lit<, lit≤}
+use Rattle.std.proofs.Common.{◌∷◌, inl, ◌≡◌, ◌≢◌, ◌<◌, [], Some, None, Bool, true, false, refl, arith, lit<, lit≤}
 use Rattle.std.specs.Prelude.{Contains, if◌then◌else◌}
 use Rattle.std.specs.declared.option.Option.{Option}
 use Rattle.pool_types.specs.declared.values.Place.{Place}
 use Rattle.pool_types.specs.declared.values.Request.TheVariants.{Malloc}
+use Rattle.pool_types.specs.Policies.{IsAllowed}
 use Rattle.part_model.specs.declared.holders.Holder.{Holder}
 use Rattle.part_model.specs.declared.holders.Holder.TheVariants.{Waste, SlabCache, Cached, Bin, Queue, Hand}
 use Rattle.part_model.specs.declared.moves.Part.{Part}
@@ -46,6 +47,9 @@ scrap_is_new = record {
   right = λ some. absurd (omega arith);
   within = lit< tt;
   apart = λ other live. absurd (none_in other live);
+  some = lit< tt;
+  lowest = λ room. omega arith;
+  longest = λ fewer indices longest. absurd (let none : 0 < 0 = fewer in omega arith);
 }
 
 -- the progress before each step
@@ -77,6 +81,7 @@ scrap_comes = record {
   there = two_move 0 nothing_yet.held (front_range 0 scrap) (back_range 0 scrap) None (Some Waste) None (Some Waste) refl refl (λ byte inside. refl) (λ byte inside. refl);
   lawful = region_comes scrap scrap_is_new;
   fits = (tt, tt, tt);
+  moves = record { grants = tt; ends = (tt, (tt, tt)); keeps = refl };
 }
 
 -- a malloc of 8 bytes is for an object of the first class
@@ -130,7 +135,7 @@ scrap_refuses = record {
           served = Small 0;
           seen = 0;
           vain = record { later = _; steps = refl; still = refl; is = eight_is_small; vain = (refl, lit≤ tt, λ block member. absurd (none_in block member), (0, (refl, refl), refl)) };
-          found = (refl, lit< tt, refl, refl, refl);
+          found = (refl, (lit< tt, tt), refl, refl, refl);
           drained = λ alone. record {
             queue = scrap_held (λ holder. holder ≢ Some Queue) (λ e. cc) (λ e. cc);
             cache = λ byte granules. scrap_held (λ holder. holder ≢ Some (Cached granules)) (λ e. cc) (λ e. cc) byte;
@@ -142,8 +147,13 @@ scrap_refuses = record {
       no_slab = λ slab kept. absurd (none_in slab kept.0);
     },
   );
+  moves = record { grants = tt; ends = tt; keeps = refl };
 }
+
+-- the pool can be made
+pub small_pool_allowed : IsAllowed (fixed_pool 8192).policy (fixed_pool 8192).limits
+small_pool_allowed = record { valid = refl; supported = refl; limits_in = ((refl, refl, refl), refl) }
 
 -- the malloc in vain is a run
 pub malloc_in_vain_runs : IsRun (fixed_pool 8192) malloc_in_vain
-malloc_in_vain_runs = (record { seated = lit< tt; free = refl; serving = refl }, (scrap_comes, (scrap_refuses, tt)))
+malloc_in_vain_runs = (small_pool_allowed, (record { seated = lit< tt; free = refl; serving = refl }, (scrap_comes, (scrap_refuses, tt))))

@@ -4,10 +4,11 @@ use Rattle.std.specs.Prelude.{if◌then◌else◌}
 use Rattle.std.proofs.lemmas.Bool.{cases_Bool, cases_lt}
 use Rattle.pool_types.specs.declared.values.Place.{Place}
 use Rattle.pool_types.specs.declared.values.Answer.TheVariants.{Got}
+use Rattle.pool_types.specs.Policies.{IsAllowed}
 use Rattle.part_model.specs.declared.holders.Holder.TheVariants.{Head, Rest, Object, Bin, Hand}
 use Rattle.part_model.specs.declared.moves.Range.{Range}
 use Rattle.part_model.specs.Holding.{lies_in}
-use Rattle.part_model.proofs.RunLemmas.{lies_in-parts, lies_in-is}
+use Rattle.part_model.proofs.Ranges.{lies_in-parts, lies_in-is}
 use Rattle.size_classes.specs.Classes.{class_size, class_objects}
 use Rattle.size_classes.specs.Served.{served_plain_at}
 use Rattle.pool_types.specs.declared.rows.Keeper.TheVariants.{Seat, Hand as InHand}
@@ -59,6 +60,9 @@ mebibyte_is_new = record {
   right = λ some. refl;
   within = lit< tt;
   apart = λ other live. absurd (none_in other live);
+  some = lit< tt;
+  lowest = λ room. omega arith;
+  longest = λ fewer indices longest. absurd (let none : 128 < 128 = fewer in omega arith);
 }
 
 pub region_step : MayStep (fixed_pool 1048576) begun (step_of (coming_parts 0 0 mebibyte) [] (Some mebibyte) Nothing_seen None)
@@ -68,6 +72,7 @@ region_step = record {
   there = one_moves 0 nothing_yet.held all_range None (Some (Hand 0)) refl (λ byte inside. refl);
   lawful = region_comes mebibyte mebibyte_is_new;
   fits = (tt, tt, tt);
+  moves = record { grants = tt; ends = (tt, tt); keeps = refl };
 }
 
 -- a byte of the region is in hand
@@ -91,6 +96,7 @@ put_step = record {
     tt,
   );
   fits = (tt, tt, tt);
+  moves = record { grants = tt; ends = (tt, tt); keeps = refl };
 }
 
 -- what lies before the block in the bin is in hand still
@@ -119,6 +125,7 @@ slab_step = record {
     even = refl;
   });
   fits = (tt, tt, tt);
+  moves = record { grants = tt; ends = (tt, (tt, tt)); keeps = refl };
 }
 
 -- a byte of the object is rest before it is granted
@@ -187,9 +194,14 @@ grant_step = record {
       no_slab = λ slab kept. kept_by_seat slab kept.0 kept.1;
     },
   );
+  moves = record { grants = tt; ends = (tt, tt); keeps = refl };
 }
+
+-- the pool can be made
+pub pool_allowed : IsAllowed (fixed_pool 1048576).policy (fixed_pool 1048576).limits
+pool_allowed = record { valid = refl; supported = refl; limits_in = ((refl, refl, refl), refl) }
 
 -- the first malloc is a run
 pub first_malloc_runs : IsRun (fixed_pool 1048576) first_malloc
 unfolding class_size class_objects
-first_malloc_runs = (record { seated = lit< tt; free = refl; serving = refl }, (region_step, (put_step, (slab_step, (grant_step, tt)))))
+first_malloc_runs = (pool_allowed, (record { seated = lit< tt; free = refl; serving = refl }, (region_step, (put_step, (slab_step, (grant_step, tt))))))

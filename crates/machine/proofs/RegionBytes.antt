@@ -6,7 +6,7 @@ use Rattle.pool_types.specs.declared.policy.RegionRec.{RegionRec}
 use Rattle.part_model.specs.Holding.{Holding, lies_in}
 use Rattle.part_model.specs.Totals.{has_holder, place_at, sum_below, region_bytes}
 use Rattle.part_model.proofs.Sums.{sum_below-same, sum_below-none, sum_below-span}
-use Rattle.part_model.proofs.RunLemmas.{lies_in-parts, lies_in-is, same_region-is, same_region-parts}
+use Rattle.part_model.proofs.Ranges.{lies_in-parts, lies_in-is, same_region-is, same_region-parts}
 use Rattle.part_model.proofs.MoveCounts.{totals_sum_is}
 use Rattle.machine.specs.States.{State}
 use Rattle.machine.specs.Runs.{no_progress, after_events}
@@ -73,7 +73,7 @@ other_bytes_are pool held regions next sound other number none =
 -- the sum of the totals is the bytes of the regions
 pub runs_sum : RunsSum
 runs_sum terms events run =
-    let sound : IsSoundState terms (after_events no_progress events).state = sound_run terms no_progress events run (sound_nothing terms) in
+    let sound : IsSoundState terms (after_events no_progress events).state = sound_run terms no_progress events run.1 (sound_nothing terms) in
     let state : State = (after_events no_progress events).state in
     let both = totals_sum_is (after_events no_progress events).state.held in
     record {

@@ -11,7 +11,7 @@ use Rattle.part_model.specs.declared.moves.Part.{Part}
 use Rattle.part_model.specs.Holding.{Holding, lies_in, after_parts, AreApart, CanMoveAll}
 use Rattle.part_model.specs.Totals.{has_holder}
 use Rattle.part_model.proofs.Changes.{holders_of-is}
-use Rattle.part_model.proofs.RunLemmas.{lies_in-parts, same_region-parts}
+use Rattle.part_model.proofs.Ranges.{lies_in-parts, same_region-parts}
 use Rattle.machine.specs.States.{Terms, State, nothing_yet}
 use Rattle.machine.specs.Ranges.{Each}
 use Rattle.machine.specs.Regions.{coming_parts, leaving_parts, front_range, granules_range, back_range, IsNewRegion}
@@ -289,7 +289,7 @@ sound_nothing terms = record {
 -- in a run each byte of each region has exactly one holder
 pub runs_have_one_holder : RunsHaveOneHolder
 runs_have_one_holder terms events run =
-    let sound : IsSoundState terms (after_events no_progress events).state = sound_run terms no_progress events run (sound_nothing terms) in
+    let sound : IsSoundState terms (after_events no_progress events).state = sound_run terms no_progress events run.1 (sound_nothing terms) in
     record {
       one = λ region live byte inside.
           holders_of-is (after_events no_progress events).state.held byte ((after_events no_progress events).state.held byte) refl

@@ -6,7 +6,7 @@ use Rattle.pool_types.specs.declared.values.Place.{Place}
 use Rattle.pool_types.specs.declared.values.Request.{Request}
 use Rattle.part_model.specs.declared.moves.Range.{Range}
 use Rattle.part_model.specs.Holding.{same_region, lies_in, IsApart}
-use Rattle.part_model.proofs.RunLemmas.{lies_in-parts, lies_in-is, same_region-is, same_region-parts}
+use Rattle.part_model.proofs.Ranges.{lies_in-parts, lies_in-is, same_region-is, same_region-parts}
 use Rattle.size_classes.specs.declared.Served.{Served}
 use Rattle.size_classes.specs.declared.Served.TheVariants.{Small, Large, Bad}
 use Rattle.machine.specs.States.{Terms, State}
@@ -242,7 +242,7 @@ block_fits terms state Bad range block some all fits = absurd fits
 -- a look misses no room
 pub looks_miss_none : LooksMissNone
 looks_miss_none terms events run once call is_open served look are first last none range some bins fits =
-    let lone = lone_run terms no_progress events run lone_nothing in
+    let lone = lone_run terms no_progress events run.1 lone_nothing in
     let nobody : (byte : Place) → IsJustPut (after_events no_progress events) call.seat byte → ⊥ =
     λ byte put'. put'.1.1 (ap (λ (c : Call). c.seat) (short-same (after_events no_progress events).calls (lone.lone once) put'.0 call put'.1.0 is_open)) in
     let found = in_one_block terms (after_events no_progress events) call.seat look.lists are once nobody range some bins in

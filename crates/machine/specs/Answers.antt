@@ -22,9 +22,9 @@ use Rattle.part_model.specs.Holding.{same_region, lies_in}
 use Rattle.size_classes.specs.declared.Served.{Served}
 use Rattle.size_classes.specs.declared.Served.TheVariants.{Small, Large, Bad}
 use Rattle.machine.specs.States.{Terms, State, Slab}
-use Rattle.machine.specs.Ranges.{IsIn}
-use Rattle.machine.specs.Regions.{IsShownNumber, IsLongestRun, asked_indices}
-use Rattle.machine.specs.Journal.{Entry, Callback_failed, is_object}
+use Rattle.machine.specs.Ranges.{Each, IsIn}
+use Rattle.machine.specs.Regions.{IsShownNumber, IsLongestRun, MayObtain, asked_indices}
+use Rattle.machine.specs.Journal.{Entry, BookChange, Callback_failed, is_object}
 use Rattle.machine.specs.Lawful.{IsKept}
 use Rattle.machine.specs.Suits.{Suits, size_of}
 use Rattle.machine.specs.Looks.{served_for, first_bin, look_of, AreInVain}
@@ -46,6 +46,10 @@ pub record Call : Type 0 where
 -- the parts that a call has moved, in order
 abbrev pub moved_parts : List Moment → List Part
 moved_parts moments = flat_map (λ moment. moment.entry.parts) moments
+
+-- the changes of the book that a call has made, in order
+abbrev pub book_changes : List Moment → List BookChange
+book_changes moments = flat_map (λ moment. moment.entry.book) moments
 
 -- both are one object's
 abbrev pub same_object : Option Holder → Option Holder → Bool
@@ -101,7 +105,7 @@ AtSteps fact later (moment ∷ moments) = (fact moment.state × AtStep later mom
 -- one of the steps found that the raw callback failed
 abbrev pub Failed : List Moment → Type 0
 Failed [] = ⊥
-Failed (moment ∷ moments) = (moment.entry.seen ≡ Callback_failed) ⊎ Failed moments
+Failed (moment ∷ moments) = ((bytes : ℕ) × (moment.entry.seen ≡ Callback_failed bytes)) ⊎ Failed moments
 
 -- the place is a unit of 8 bytes of a live region's granules: objects can begin there
 pub record IsUnit (limits : Limits) (state : State) (place : Place) : Type 0 where
@@ -159,28 +163,30 @@ pub record LooksInVain (limits : Limits) (call : Call) (earlier : List Moment) (
   pub is : served_for call.request ≡ served
   pub vain : AreInVain limits served (first_bin served) (flat_map (λ moment. look_of moment.state moment.entry.seen) later) seen
 
--- At a step the longest run of free granule indices had `greatest`, too few for the `asked` ones.
+-- At a step at which a region may be obtained the longest run of free granule indices had `greatest`, too few for the `asked` ones.
 pub record IsSpanFull (terms : Terms) (served : Served) (asked greatest : ℕ) (moments : List Moment) : Type 0 where
-  pub longest : AtStep (λ state. IsLongestRun terms state greatest) moments
+  pub longest : AtStep (λ state. MayObtain terms state × IsLongestRun terms state greatest) moments
   pub wanted : asked ≡ asked_indices terms (granules_for served)
   pub short : greatest < asked
 
--- At a step `out` regions were live and `next` was the next number, and one of the two was at its limit.
-pub record IsRegionsFull (out next : ℕ) (moments : List Moment) : Type 0 where
-  pub there : AtStep (λ state. (length state.regions ≡ out) × IsShownNumber state next) moments
+-- At a step at which a region may be obtained `out` regions were live and `next` was the next number, and one of the two was at its
+-- limit.
+pub record IsRegionsFull (terms : Terms) (out next : ℕ) (moments : List Moment) : Type 0 where
+  pub there : AtStep (λ state. MayObtain terms state × (length state.regions ≡ out) × IsShownNumber state next) moments
   pub limit : (64 ≤ out) ⊎ (4194304 ≤ next)
 
--- what the backend found before the last scan
-abbrev pub IsBackendCause : Terms → Served → List Moment → ℕ → State → NullCause → Type 0
-IsBackendCause terms served earlier seen after RawFailed = Failed earlier
-IsBackendCause terms served earlier seen after (SpanFull asked greatest) = IsSpanFull terms served asked greatest earlier
-IsBackendCause terms served earlier seen after (RegionsFull out next) = IsRegionsFull out next earlier
-IsBackendCause terms served earlier seen after (NoFit looks) =
-    (terms.policy.fixed ≡ true) × (0 < after.next)
+-- What the backend found before the last scan, whose steps are the later ones. Where it found two causes, each may be answered.
+abbrev pub IsBackendCause : Terms → Served → List Moment → List Moment → ℕ → NullCause → Type 0
+IsBackendCause terms served earlier later seen RawFailed = Failed earlier
+IsBackendCause terms served earlier later seen (SpanFull asked greatest) = IsSpanFull terms served asked greatest earlier
+IsBackendCause terms served earlier later seen (RegionsFull out next) = IsRegionsFull terms out next earlier
+IsBackendCause terms served earlier later seen (NoFit looks) =
+    (terms.policy.fixed ≡ true) × Each (λ moment. 0 < moment.state.next) later
     × (looks.first ≡ first_bin served) × (looks.last ≡ 511) × (looks.seen ≡ seen)
-IsBackendCause terms served earlier seen after cause = ⊥
+IsBackendCause terms served earlier later seen cause = ⊥
 
--- no block waits in the queue or lies in the cache
+-- No block waits in the queue or lies in the cache. That the seat's slab cache is empty is said of a scan for a slab; of one for a block
+-- it isn't said yet.
 pub record NoneIsKept (state : State) : Type 0 where
   pub queue : (byte : Place) → state.held byte ≢ Some Queue
   pub cache : (byte : Place) (granules : ℕ) → state.held byte ≢ Some (Cached granules)
@@ -192,7 +198,7 @@ pub record IsRefusedByBackend (terms : Terms) (call : Call) (after : State) (cau
   pub served : Served
   pub seen : ℕ
   pub vain : LooksInVain terms.limits call earlier served seen
-  pub found : IsBackendCause terms served earlier seen after cause
+  pub found : IsBackendCause terms served earlier vain.later seen cause
   pub drained : call.alone ≡ true → NoneIsKept after
 
 -- Why there is no new object, in the order of the causes: the seat's numbers are spent, the block is as large as the span, or the
@@ -244,19 +250,26 @@ pub record MustMove (limits : Limits) (call : Call) (place : Place) (usable : �
       × ((usable < size_of call.request) ⊎ (IsAligned limits state place (alignment_asked call.request) → ⊥)))
       call.moments
 
--- the old object stays: the call moved nothing
+-- the old object stays: the call moved nothing, and changed no slab
 pub record IsStaying (limits : Limits) (call : Call) (old place : Place) (usable : ℕ) (grant : Grant) : Type 0 where
   pub same : place ≡ old
   pub stays : CanStay limits call place usable grant
   pub none : moved_parts call.moments ≡ []
+  pub book : book_changes call.moments ≡ []
 
--- a new object in place of the old one, which the call ended
+-- A new object in place of the old one. The call ended the old one when it had the new one: the steps that ended a held object come
+-- after those that granted one.
 pub record IsMoved (terms : Terms) (call : Call) (old place : Place) (usable : ℕ) (grant : Grant) : Type 0 where
   pub new_object : IsNew terms call place usable grant
   pub old_usable : ℕ
   pub old_grant : Grant
   pub wanted : MustMove terms.limits call old old_usable old_grant
   pub freed : EndsOne call old old_usable old_grant
+  pub earlier : List Moment
+  pub later : List Moment
+  pub order : call.moments ≡ earlier ++ later
+  pub new_first : ended (moved_parts earlier) ≡ []
+  pub old_last : granted (moved_parts later) ≡ []
 
 -- at the answer no object that the call granted is held under that grant
 abbrev pub NoneIsLeft : Call → State → Type 0

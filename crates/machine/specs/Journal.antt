@@ -28,12 +28,12 @@ pub record Look : Type 0 where
   pub last : ℕ
   pub lists : List Range
 
--- What a step found that an answer cites and that the state doesn't show: a look at bins, or that the raw callback failed. All else
--- that a step finds is in the state.
+-- What a step found that an answer cites and that the state doesn't show: a look at bins, or that the raw callback failed, when it was
+-- asked for so many bytes. All else that a step finds is in the state.
 pub data Sight : Type 0 where
   Nothing_seen : Sight
   Bins_seen : Look → Sight
-  Callback_failed : Sight
+  Callback_failed : ℕ → Sight
 
 -- A step of a seat: its number, the kind of step (none in a journal of whole calls), the move with all its parts, the changes of the
 -- book, the record of a region that comes, what the step found, and the answer of the call that it ends. Where a journal spreads the

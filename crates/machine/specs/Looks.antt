@@ -67,7 +67,7 @@ pub record Looked : Type 0 where
 abbrev pub look_of : State → Sight → List Looked
 look_of state (Bins_seen look) = record { state = state; look = look } ∷ []
 look_of state Nothing_seen = []
-look_of state Callback_failed = []
+look_of state (Callback_failed bytes) = []
 
 -- The looks are at the bins from this one to 511, at each once and in order. None of the blocks in their lists fits, and the number of
 -- these blocks is `seen`.

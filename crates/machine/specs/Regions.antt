@@ -70,6 +70,11 @@ pub record HasFreeRun (terms : Terms) (state : State) (indices : ℕ) : Type 0 w
   pub within : from + indices ≤ terms.limits.span
   pub free : (index : ℕ) → from ≤ index → index < from + indices → IsIndexFree state index
 
+-- the longest run of free granule indices has so many
+pub record IsLongestRun (terms : Terms) (state : State) (indices : ℕ) : Type 0 where
+  pub free : HasFreeRun terms state indices
+  pub longest : (other : ℕ) → HasFreeRun terms state other → other ≤ indices
+
 -- how many granules fit into the region behind the waste in front
 abbrev pub whole_granules : RegionRec → ℕ
 whole_granules region = (region.region.bytes - region.waste) / 8192
@@ -83,12 +88,15 @@ pub record HasRoom (terms : Terms) (state : State) (region : RegionRec) : Type 0
   pub run : HasFreeRun terms state (whole_granules region + 1)
   pub right : IsRightStart region run.from
 
+-- the pool may obtain a region: a fixed pool gets one and no more
+abbrev pub MayObtain : Terms → State → Type 0
+MayObtain terms state = terms.policy.fixed ≡ true → state.next ≡ 0
+
 -- the region can come
 pub record IsNewRegion (terms : Terms) (state : State) (region : RegionRec) : Type 0 where
   pub number : IsNextNumber state region.number
   pub below : region.number < 4194304
-  -- a fixed pool gets one region and no more
-  pub only : terms.policy.fixed ≡ true → state.next ≡ 0
+  pub only : MayObtain terms state
   -- its granules begin at the first address that is a multiple of 8192, and lie in it
   pub front : region.waste < 8192
   pub aligned : (region.region.base + region.waste) % 8192 ≡ 0
@@ -99,11 +107,11 @@ pub record IsNewRegion (terms : Terms) (state : State) (region : RegionRec) : Ty
   pub right : 0 < region.granules → IsRightStart region region.first
   pub within : region.first + region.granules < terms.limits.span
   pub apart : (other : RegionRec) → Contains state.regions other → IsApartRegion other region
-
--- the longest run of free granule indices has so many
-pub record IsLongestRun (terms : Terms) (state : State) (indices : ℕ) : Type 0 where
-  pub free : HasFreeRun terms state indices
-  pub longest : (other : ℕ) → HasFreeRun terms state other → other ≤ indices
+  pub some : 0 < region.region.bytes
+  -- Of the places for all granules it has the lowest. Where there is none, it has as many granules as the longest free run has indices
+  -- but for the wall and at most one more; which run it lies in isn't said.
+  pub lowest : (room : HasRoom terms state region) → region.first ≤ room.run.from
+  pub longest : region.granules < whole_granules region → (indices : ℕ) → IsLongestRun terms state indices → indices ≤ region.granules + 2
 
 -- how many bytes the pool asks its callback for, where it needs so many granules
 abbrev pub asked_bytes : Terms → ℕ → ℕ

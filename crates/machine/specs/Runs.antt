@@ -5,6 +5,7 @@ use Rattle.std.specs.Bool.{OnTrue}
 use Rattle.pool_types.specs.declared.values.Place.{Place}
 use Rattle.pool_types.specs.declared.values.Request.{Request}
 use Rattle.pool_types.specs.declared.values.Answer.{Answer}
+use Rattle.pool_types.specs.Policies.{IsAllowed}
 use Rattle.part_model.specs.declared.holders.Holder.TheVariants.{Waste, Bin, Hand, Cached}
 use Rattle.part_model.specs.declared.holders.Kind.TheVariants.{Bin as OfBin, LargeHead as OfLargeHead}
 use Rattle.part_model.specs.declared.moves.Range.{Range}
@@ -15,10 +16,12 @@ use Rattle.size_classes.specs.declared.Served.{Served}
 use Rattle.size_classes.specs.declared.Served.TheVariants.{Small, Large, Bad}
 use Rattle.machine.specs.States.{Terms, State, nothing_yet}
 use Rattle.machine.specs.Ranges.{Each, AreDisjoint, IsGranules, lies_in_parts}
-use Rattle.machine.specs.Journal.{Entry, Sight, Nothing_seen, Bins_seen, Callback_failed, after_entry}
+use Rattle.machine.specs.Regions.{IsNextNumber, HasFreeRun, MayObtain, asked_bytes, asked_indices}
+use Rattle.machine.specs.Journal.{Entry, Sight, Nothing_seen, Bins_seen, Callback_failed, is_object, after_entry}
 use Rattle.machine.specs.Lawful.{IsLawful, IsCut, large_head_range, large_object_range}
 use Rattle.machine.specs.Looks.{served_for, NoneFree, NoneWaits}
-use Rattle.machine.specs.Answers.{Call, AtStep, granted, moved_parts, IsLegal}
+use Rattle.machine.specs.Suits.{wants_object, place_to_free}
+use Rattle.machine.specs.Answers.{Call, AtStep, granted, same_object, moved_parts, granules_for, IsLegal}
 
 -- What happens in a pool: a seat begins a call, a seat makes a step, a reset begins and ends, the pool's end begins. A whole call is
 -- its begin and then its entries, the last of which has the answer.
@@ -122,7 +125,7 @@ IsOtherCall progress seat call = Contains progress.calls call × (call.seat ≢ 
 abbrev pub is_put : Part → Bool
 is_put part = is_at OfBin part.to
 
--- another call that is open has put the byte into bins
+-- another call that is open has put the byte into bins: at its last step that put any, or at one before
 abbrev pub IsJustPut : Progress → ℕ → Place → Type 0
 IsJustPut progress seat byte = (call : Call) × IsOtherCall progress seat call × (lies_in_parts byte (filter is_put (moved_parts call.moments)) ≡ true)
 
@@ -134,7 +137,8 @@ Touches one other =
 
 -- The lists of a look are those of the bins. Their blocks are whole granules and have no byte in common. Each is in bins, or another
 -- seat that is in a call has won it and not yet taken it out of its list. A byte in bins lies in one of them, unless another call that
--- is open has put its block and perhaps not yet linked it. As long as no two calls were open at once, no two blocks touch.
+-- is open has put its block and perhaps not yet linked it. As long as no two calls were open at once, no two blocks touch. Once two were,
+-- it isn't said at which of the granules in bins one block ends and the next begins.
 pub record AreLists (terms : Terms) (progress : Progress) (seat : ℕ) (lists : List Range) : Type 0 where
   pub whole : Each (λ block. (granules : ℕ) × IsGranules terms.limits progress.state block granules) lists
   pub disjoint : AreDisjoint lists
@@ -154,13 +158,23 @@ HasToScan state call (Large granules alignment) =
     ((byte : Place) → state.held byte ≢ Some (Cached granules)) ⊎ AtStep (λ earlier. (byte : Place) → earlier.held byte ≢ Some (Cached granules)) call.moments
 HasToScan state call Bad = ⊥
 
+-- The pool may ask the raw callback for so many bytes, for a new object that is served so: it may obtain a region, has a number for
+-- it, and room for it in the span.
+pub record IsAsked (terms : Terms) (state : State) (served : Served) (bytes : ℕ) : Type 0 where
+  pub may : MayObtain terms state
+  pub number : ℕ
+  pub next : IsNextNumber state number
+  pub below : number < 4194304
+  pub run : HasFreeRun terms state (asked_indices terms (granules_for served))
+  pub exact : bytes ≡ asked_bytes terms (granules_for served)
+
 -- What a step found is so. That the callback failed is said where the callback is called: the machine doesn't have it.
 abbrev pub IsSight : Terms → Progress → Call → Sight → Type 0
 IsSight terms progress call Nothing_seen = Unit {0}
 IsSight terms progress call (Bins_seen look) =
     AreLists terms progress call.seat look.lists
     × ((served : Served) × (served_for call.request ≡ served) × HasToScan progress.state call served)
-IsSight terms progress call Callback_failed = Unit {0}
+IsSight terms progress call (Callback_failed bytes) = (wants_object call.request ≡ true) × IsAsked terms progress.state (served_for call.request) bytes
 
 -- the answer, if there is one, is legal
 abbrev pub IsAnswered : Terms → Call → State → Option Answer → Type 0
@@ -180,10 +194,15 @@ pub record IsCutFor (terms : Terms) (state : State) (call : Call) (parts : List 
   pub served : served_for call.request ≡ Large granules alignment
   pub cut : IsCut terms.limits state block alignment head
   pub head_is : map (λ part. part.range) parts ≡ large_head_range block head ∷ large_object_range block head ∷ []
+  pub exact : cut.granules ≡ granules
+
+-- no bytes leave the pool
+abbrev pub NoneLeaves : List Part → Type 0
+NoneLeaves parts = list_any (λ part. not (has_holder part.to)) parts ≡ false
 
 -- no region leaves or comes
 abbrev pub KeepsRegions : Entry → Type 0
-KeepsRegions entry = (list_any (λ part. not (has_holder part.to)) entry.parts ≡ false) × (entry.region ≡ None)
+KeepsRegions entry = NoneLeaves entry.parts × (entry.region ≡ None)
 
 -- What a phase asks of a step outside of calls: there is none while calls are served. A reset keeps the regions, and the pool's end gets
 -- none.
@@ -194,6 +213,8 @@ IsStepIn Ending entry = entry.region ≡ None
 
 -- What is asked of a step beside its move. In a call: that a large object is cut as it is served, that what the step found is so, and
 -- that its answer is legal. Outside of calls: that it is one of a reset or of the pool's end, which grant nothing and answer nothing.
+-- What isn't asked: that a region comes only after a scan in vain. That cleanups of the cache follow the clock's ticks is said where the
+-- clock is: the machine has none.
 abbrev pub IsStepOf : Terms → Progress → Entry → Option Call → Type 0
 IsStepOf terms progress entry (Some call) =
     OnTrue (list_any makes_large entry.parts) (IsCutFor terms progress.state call entry.parts)
@@ -203,6 +224,24 @@ IsStepOf terms progress entry None =
     IsStepIn progress.phase entry × (entry.seat < terms.limits.seats)
     × (granted entry.parts ≡ []) × (entry.seen ≡ Nothing_seen) × (entry.answer ≡ None)
 
+-- a part out of an object is out of the one at the place that the request frees, or out of one that the call granted
+abbrev pub MayEnd : Call → Part → Type 0
+MayEnd call part =
+    OnTrue (is_object part.from)
+    ((place_to_free call.request ≡ Some part.range.place) ⊎ (list_any (λ earlier. same_object earlier.to part.from) (moved_parts call.moments) ≡ true))
+
+-- What a step of a call may move, be the call answered or not: it grants an object only where its request wants one, and ends none but the one that
+-- its request frees and those that it granted. A fixed pool, and one that keeps its memory, lets no region go in a call.
+pub record IsMoveOf (terms : Terms) (call : Call) (parts : List Part) : Type 0 where
+  pub grants : OnTrue (not (wants_object call.request)) (granted parts ≡ [])
+  pub ends : Each (MayEnd call) parts
+  pub keeps : OnTrue (terms.policy.fixed || terms.policy.keep) (NoneLeaves parts)
+
+-- what may be moved in the call that is open, if one is
+abbrev pub IsMoveIn : Terms → List Part → Option Call → Type 0
+IsMoveIn terms parts (Some call) = IsMoveOf terms call parts
+IsMoveIn terms parts None = Unit {0}
+
 -- the step may be made: its parts are whole and apart, its bytes are where they are said to be, and its move is lawful
 pub record MayStep (terms : Terms) (progress : Progress) (entry : Entry) : Type 0 where
   pub whole : AreWhole entry.parts
@@ -210,6 +249,7 @@ pub record MayStep (terms : Terms) (progress : Progress) (entry : Entry) : Type 
   pub there : CanMoveAll entry.seat progress.state.held entry.parts
   pub lawful : IsLawful terms progress.state entry.seat entry.parts entry.book entry.region
   pub fits : IsStepOf terms progress entry (call_of progress entry.seat)
+  pub moves : IsMoveIn terms entry.parts (call_of progress entry.seat)
 
 -- the seat may begin a call: it has none open, and calls are served
 pub record MayBegin (terms : Terms) (progress : Progress) (seat : ℕ) : Type 0 where
@@ -228,7 +268,7 @@ MayHappen terms progress (Begins seat request) = MayBegin terms progress seat
 MayHappen terms progress (Makes entry) = MayStep terms progress entry
 MayHappen terms progress Reset_begins = (progress.calls ≡ []) × (progress.phase ≡ Serving)
 MayHappen terms progress Reset_ends = (progress.phase ≡ Resetting) × IsReset progress.state
-MayHappen terms progress End_begins = (progress.calls ≡ []) × (progress.phase ≡ Serving)
+MayHappen terms progress End_begins = (progress.calls ≡ []) × (progress.phase ≢ Ending)
 
 -- the progress after an event; a reset forgets that calls were open at once
 abbrev pub after_event : Progress → Event → Progress
@@ -248,6 +288,6 @@ abbrev pub IsRunFrom : Terms → Progress → List Event → Type 0
 IsRunFrom terms progress [] = Unit {0}
 IsRunFrom terms progress (event ∷ events) = MayHappen terms progress event × IsRunFrom terms (after_event progress event) events
 
--- the events are a run of the partition machine, from no region on
+-- the events are a run of the partition machine, from no region on, of a pool that can be made
 abbrev pub IsRun : Terms → List Event → Type 0
-IsRun terms events = IsRunFrom terms no_progress events
+IsRun terms events = IsAllowed terms.policy terms.limits × IsRunFrom terms no_progress events

@@ -1,5 +1,5 @@
 -- Which objects suit a request.
-use Rattle.std.specs.Prelude.{◌≡◌, ℕ, ◌+◌, ◌%◌, ◌≤◌, ◌==◌, nat_le, if◌then◌else◌, Contains}
+use Rattle.std.specs.Prelude.{◌≡◌, ℕ, ◌+◌, ◌%◌, ◌≤◌, ◌==◌, nat_le, Bool, true, false, if◌then◌else◌, Contains, Option, None}
 use Rattle.pool_types.specs.declared.values.Place.{Place}
 use Rattle.pool_types.specs.declared.values.Request.{Request}
 use Rattle.pool_types.specs.declared.values.Request.TheVariants.{Malloc, Aligned, Realloc, AlignedRealloc, Free, Msize, Identify, Exit}
@@ -18,6 +18,28 @@ size_of (Free place) = 0
 size_of (Msize place) = 0
 size_of (Identify place) = 0
 size_of Exit = 0
+
+-- the request wants a new object, or may want one
+abbrev pub wants_object : Request → Bool
+wants_object (Malloc size) = true
+wants_object (Aligned size alignment) = true
+wants_object (Realloc place size) = true
+wants_object (AlignedRealloc place size alignment) = true
+wants_object (Free place) = false
+wants_object (Msize place) = false
+wants_object (Identify place) = false
+wants_object Exit = false
+
+-- the place whose object a request frees, or may free
+abbrev pub place_to_free : Request → Option Place
+place_to_free (Malloc size) = None
+place_to_free (Aligned size alignment) = None
+place_to_free (Realloc place size) = place
+place_to_free (AlignedRealloc place size alignment) = place
+place_to_free (Free place) = place
+place_to_free (Msize place) = None
+place_to_free (Identify place) = None
+place_to_free Exit = None
 
 -- the least usable bytes that suit a size: a request for no bytes gets 8
 abbrev pub least_usable : ℕ → ℕ
