@@ -1,2 +1,5 @@
-pub mod ReportLemmas
 pub mod StreamLemmas
+pub mod SlabLemmas
+pub mod RegionLemmas
+pub mod ListLemmas
+pub mod LeakLemmas

@@ -1,3 +1,7 @@
+pub mod Fresh
+pub mod Lists
+pub mod Held
 pub mod Replay
 pub mod Report
+pub mod Running
 pub mod Streams

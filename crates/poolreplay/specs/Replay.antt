@@ -8,7 +8,7 @@ use Rattle.trace_reader.specs.declared.first.FirstAct.{FirstAct}
 use Rattle.poolreplay.specs.declared.replay.Status.{Status}
 use Rattle.poolreplay.specs.declared.replay.Status.TheVariants.{Done, BadWords, BadTrace, TooLong, ReadFault, WriteFault, NoMemory}
 use Rattle.poolreplay.specs.Streams.{IsReadWhole, IsReadPast}
-use Rattle.poolreplay.specs.Report.{report_text}
+use Rattle.poolreplay.specs.Running.{run_text}
 
 -- the one command line
 abbrev pub IsCommand : List (List ℕ) → Type 0
@@ -18,7 +18,7 @@ IsCommand words = words ≡ codes "replay" ∷ []
 pub record IsReplayed (bytes text : List ℕ) : Type 0 where
   pub acts : List FirstAct
   pub spelled : Spells bytes acts
-  pub report : text ≡ report_text acts
+  pub report : text ≡ run_text acts
 
 -- the text of a refused line
 abbrev pub refused_text : ℕ → ℕ → List ℕ
