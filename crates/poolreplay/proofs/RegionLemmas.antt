@@ -44,5 +44,5 @@ first_given old new answer fresh gets =
 -- once it was asked for, the region is there
 pub given_first : (given : Option Region) (old new : Script) (answer : Option Region) (none : Bool) → is_some given ≡ not none → none ≡ true → IfNone given (old ≡ unasked) → Gets old 1048576 answer new →
     answer ≡ Some (unwrap_or given first_region)
-given_first None old new answer none is yes fresh gets = first_given old new answer fresh gets
-given_first (Some region) old new answer none is yes fresh gets = absurd (let no : true ≡ false = is ∙ ap not yes in cc)
+given_first None old new answer none is asked fresh gets = first_given old new answer fresh gets
+given_first (Some region) old new answer none is asked fresh gets = absurd (let no : true ≡ false = is ∙ ap not asked in cc)
