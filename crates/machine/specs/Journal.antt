@@ -1,0 +1,106 @@
+-- The entries of a journal, and the state after one.
+use Rattle.std.specs.Prelude.{ℕ, ◌+◌, ◌&&◌, ◌==◌, not, Bool, true, false, if◌then◌else◌, List, [], ◌∷◌, ◌++◌, map, filter, Option, Some, None}
+use Rattle.std.specs.List.{list_any}
+use Rattle.pool_types.specs.declared.values.Place.{Place}
+use Rattle.pool_types.specs.declared.values.Answer.{Answer}
+use Rattle.pool_types.specs.declared.policy.RegionRec.{RegionRec}
+use Rattle.pool_types.specs.declared.rows.Row.{Row}
+use Rattle.pool_types.specs.declared.rows.KeeperChange.{KeeperChange}
+use Rattle.part_model.specs.declared.holders.Holder.{Holder}
+use Rattle.part_model.specs.declared.holders.Holder.TheVariants.{Object}
+use Rattle.part_model.specs.declared.moves.Range.{Range}
+use Rattle.part_model.specs.declared.moves.Part.{Part}
+use Rattle.part_model.specs.Holding.{after_parts}
+use Rattle.part_model.specs.Totals.{has_holder}
+use Rattle.machine.specs.States.{State, Slab}
+use Rattle.machine.specs.Ranges.{same_place}
+
+-- a change of the book of slabs: a slab enters, the slab at a place leaves, or a slab goes from one keeper to another
+pub data BookChange : Type 0 where
+  Enters : Slab → BookChange
+  Leaves : Place → BookChange
+  Passes : KeeperChange → BookChange
+
+-- A look at the bins from the first to the last. With it stand the blocks that were in the lists of all bins at that step, as the
+-- state can't tell where one block ends and the next begins.
+pub record Look : Type 0 where
+  pub first : ℕ
+  pub last : ℕ
+  pub lists : List Range
+
+-- What a step found that an answer cites and that the state doesn't show: a look at bins, or that the raw callback failed. All else
+-- that a step finds is in the state.
+pub data Sight : Type 0 where
+  Nothing_seen : Sight
+  Bins_seen : Look → Sight
+  Callback_failed : Sight
+
+-- A step of a seat: its number, the kind of step (none in a journal of whole calls), the move with all its parts, the changes of the
+-- book, the record of a region that comes, what the step found, and the answer of the call that it ends. Where a journal spreads the
+-- move of one step over several entries, they are joined first. Of the number nothing is asked.
+pub record Entry : Type 0 where
+  pub number : ℕ
+  pub seat : ℕ
+  pub row : Option Row
+  pub parts : List Part
+  pub book : List BookChange
+  pub region : Option RegionRec
+  pub seen : Sight
+  pub answer : Option Answer
+
+-- the holder is an object
+abbrev pub is_object : Option Holder → Bool
+is_object (Some (Object grant)) = true
+is_object holder = false
+
+-- the seats' last numbers after a move: a move that makes an object draws the seat's next number
+abbrev pub last_after : (ℕ → ℕ) → ℕ → List Part → ℕ → ℕ
+last_after last seat parts other = if list_any (λ part. is_object part.to) parts && (other == seat) then last seat + 1 else last other
+
+-- one of the parts takes bytes of the region out of the pool
+abbrev pub goes : List Part → RegionRec → Bool
+goes parts region = list_any (λ part. not (has_holder part.to) && (part.range.place.region == region.number)) parts
+
+-- the regions without those of which a part goes
+abbrev pub regions_left : List RegionRec → List Part → List RegionRec
+regions_left regions parts = if list_any (λ part. not (has_holder part.to)) parts then filter (λ region. not (goes parts region)) regions else regions
+
+-- the live regions after a move
+abbrev pub regions_after : List RegionRec → List Part → Option RegionRec → List RegionRec
+regions_after regions parts None = regions_left regions parts
+regions_after regions parts (Some region) = regions_left regions parts ++ region ∷ []
+
+-- the least region number never used after a move
+abbrev pub next_after : ℕ → Option RegionRec → ℕ
+next_after next None = next
+next_after next (Some region) = region.number + 1
+
+-- the slab with the new keeper, where it is the one that changes
+abbrev pub slab_after : KeeperChange → Slab → Slab
+slab_after change slab = if same_place slab.place change.slab then record { place = slab.place; class = slab.class; keeper = change.to } else slab
+
+-- the book after one change
+abbrev pub book_changed : List Slab → BookChange → List Slab
+book_changed book (Enters slab) = book ++ slab ∷ []
+book_changed book (Leaves place) = filter (λ slab. not (same_place slab.place place)) book
+book_changed book (Passes change) = map (slab_after change) book
+
+-- the book after several changes
+abbrev pub book_after : List Slab → List BookChange → List Slab
+book_after book [] = book
+book_after book (change ∷ changes) = book_after (book_changed book change) changes
+
+-- the state after an entry
+abbrev pub after_entry : State → Entry → State
+after_entry state entry = record {
+  held = after_parts state.held entry.parts;
+  regions = regions_after state.regions entry.parts entry.region;
+  next = next_after state.next entry.region;
+  book = book_after state.book entry.book;
+  last = last_after state.last entry.seat entry.parts;
+}
+
+-- the state after several entries
+abbrev pub after : State → List Entry → State
+after state [] = state
+after state (entry ∷ entries) = after (after_entry state entry) entries

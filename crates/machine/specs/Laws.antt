@@ -1,0 +1,78 @@
+-- Laws of the partition machine's lawful moves and of its runs.
+use Rattle.std.specs.Prelude.{◌≡◌, ℕ, ◌==◌, Bool, true, false, if◌then◌else◌, List, All, Contains, Option, Some}
+use Rattle.std.specs.List.{list_any}
+use Rattle.pool_types.specs.declared.values.Place.{Place}
+use Rattle.pool_types.specs.declared.policy.RegionRec.{RegionRec}
+use Rattle.part_model.specs.declared.holders.Holder.{Holder}
+use Rattle.part_model.specs.declared.holders.Holder.TheVariants.{Rest, Private, Object, Hand}
+use Rattle.part_model.specs.declared.moves.Part.{Part}
+use Rattle.part_model.specs.Holding.{lies_in, CanMoveAll}
+use Rattle.part_model.specs.Totals.{has_holder, region_bytes, totals_of}
+use Rattle.part_model.specs.Laws.{KeepsOneHolder, AreApartFrom, IsPlaced, Follows, holders_of, sum_of, live_bytes}
+use Rattle.machine.specs.States.{Terms, State}
+use Rattle.machine.specs.Ranges.{region_range}
+use Rattle.machine.specs.Journal.{Entry, is_object, after_entry}
+use Rattle.machine.specs.Lawful.{next_grant}
+use Rattle.machine.specs.Runs.{Event, Progress, no_progress, MayStep, after_events, IsRun}
+
+-- a step that may be made keeps exactly one holder a byte
+abbrev pub StepsKeepOne : Type 0
+StepsKeepOne = (terms : Terms) (progress : Progress) (entry : Entry) → MayStep terms progress entry →
+    (byte : Place) → KeepsOneHolder progress.state.held (after_entry progress.state entry).held entry.parts byte
+
+-- the moves of two steps can be made in both orders, and leave the same holders
+pub record StepsCommute (state : State) (one other : Entry) : Type 0 where
+  pub first : CanMoveAll one.seat (after_entry state other).held one.parts
+  pub second : CanMoveAll other.seat (after_entry state one).held other.parts
+  pub same : (byte : Place) → (after_entry (after_entry state one) other).held byte ≡ (after_entry (after_entry state other) one).held byte
+
+-- two steps that may be made, over ranges that are apart, commute
+abbrev pub ApartStepsCommute : Type 0
+ApartStepsCommute = (terms : Terms) (progress : Progress) (one other : Entry) → MayStep terms progress one → MayStep terms progress other →
+    AreApartFrom one.parts other.parts → StepsCommute progress.state one other
+
+-- the totals follow a step that may be made
+abbrev pub StepsFollow : Type 0
+StepsFollow = (terms : Terms) (progress : Progress) (entry : Entry) → MayStep terms progress entry → All IsPlaced entry.parts →
+    Follows (totals_of progress.state.held) (totals_of (after_entry progress.state entry).held) entry.parts
+
+-- what a seat may grant: rest, a private object, or what it has in hand
+abbrev pub is_grantable : ℕ → Option Holder → Bool
+is_grantable seat (Some Rest) = true
+is_grantable seat (Some Private) = true
+is_grantable seat (Some (Hand hand)) = hand == seat
+is_grantable seat holder = false
+
+-- the part makes an object of bytes that were no object's, under the seat's next number
+pub record MakesFresh (state : State) (seat : ℕ) (part : Part) : Type 0 where
+  pub fresh : (byte : Place) → lies_in byte part.range ≡ true → is_grantable seat (state.held byte) ≡ true
+  pub grant : part.to ≡ Some (Object (next_grant state seat))
+
+-- an object that is granted was no object's
+abbrev pub GrantsAreFresh : Type 0
+GrantsAreFresh = (terms : Terms) (progress : Progress) (entry : Entry) → MayStep terms progress entry →
+    (part : Part) → Contains entry.parts part → is_object part.to ≡ true → MakesFresh progress.state entry.seat part
+
+-- the byte lies in a live region of the pool
+abbrev pub is_in_regions : Terms → State → Place → Bool
+is_in_regions terms state byte = list_any (λ region. lies_in byte (region_range terms.limits.pool region 0 region.region.bytes)) state.regions
+
+-- each byte of each live region has exactly one holder, and no other byte has one
+abbrev pub HaveOneHolder : Terms → State → Type 0
+HaveOneHolder terms state = (byte : Place) → holders_of state.held byte ≡ (if is_in_regions terms state byte then 1 else 0)
+
+-- in a run each byte of each region has exactly one holder, at any time
+abbrev pub RunsHaveOneHolder : Type 0
+RunsHaveOneHolder = (terms : Terms) (events : List Event) → IsRun terms events → HaveOneHolder terms (after_events no_progress events).state
+
+-- The totals of a state sum to the bytes of its live regions: each has as many bytes with a holder as its record says, and no other
+-- region has one.
+pub record AreRegionsBytes (terms : Terms) (state : State) : Type 0 where
+  pub sum : sum_of (totals_of state.held) ≡ live_bytes state.held
+  pub each : (region : RegionRec) → Contains state.regions region → region_bytes has_holder state.held terms.limits.pool region.number ≡ region.region.bytes
+  pub others : (pool number : ℕ) → ((region : RegionRec) → Contains state.regions region → (pool ≡ terms.limits.pool) × (number ≡ region.number) → ⊥) →
+      region_bytes has_holder state.held pool number ≡ 0
+
+-- in a run the sum of the totals is the bytes of the regions, at any time
+abbrev pub RunsSum : Type 0
+RunsSum = (terms : Terms) (events : List Event) → IsRun terms events → AreRegionsBytes terms (after_events no_progress events).state

@@ -1,0 +1,10 @@
+pub mod States
+pub mod Ranges
+pub mod Regions
+pub mod Journal
+pub mod Lawful
+pub mod Suits
+pub mod Looks
+pub mod Answers
+pub mod Runs
+pub mod Laws

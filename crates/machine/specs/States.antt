@@ -1,0 +1,32 @@
+-- What the partition machine of one pool has at any time.
+use Rattle.std.specs.Prelude.{ℕ, List, [], None}
+use Rattle.pool_types.specs.declared.values.Place.{Place}
+use Rattle.pool_types.specs.declared.policy.Policy.{Policy}
+use Rattle.pool_types.specs.declared.policy.Limits.{Limits}
+use Rattle.pool_types.specs.declared.policy.RegionRec.{RegionRec}
+use Rattle.pool_types.specs.declared.rows.Keeper.{Keeper}
+use Rattle.part_model.specs.Holding.{Holding}
+
+-- what the pool was made with: this never changes
+pub record Terms : Type 0 where
+  pub policy : Policy
+  pub limits : Limits
+
+-- a slab that has objects: the place of its first byte, the position of its class, and who keeps it
+pub record Slab : Type 0 where
+  pub place : Place
+  pub class : ℕ
+  pub keeper : Keeper
+
+-- Where each byte is, the live regions, the least region number that was never used, the book of slabs, and the number of the last
+-- object that each seat was granted. The places of all bytes bear the pool's number.
+pub record State : Type 0 where
+  pub held : Holding
+  pub regions : List RegionRec
+  pub next : ℕ
+  pub book : List Slab
+  pub last : ℕ → ℕ
+
+-- no region, no slab, and nothing granted
+abbrev pub nothing_yet : State
+nothing_yet = record { held = λ byte. None; regions = []; next = 0; book = []; last = λ seat. 0 }

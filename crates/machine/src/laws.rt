@@ -1,0 +1,25 @@
+//! Laws of the lawful moves and of runs. Each is what a function with an empty body ensures.
+ghost use Rattle.machine.specs.Laws.{StepsKeepOne, ApartStepsCommute, StepsFollow, GrantsAreFresh};
+
+/// A step keeps exactly one holder a byte: a byte of the pool has one afterwards, but where the step takes it out of the
+/// pool, and a byte that wasn't in the pool has one exactly where the step brings it in.
+pub fn steps_keep_one_holder()
+    ensures { StepsKeepOne }
+{}
+
+/// Two steps whose moves are over ranges that are apart commute: each move can be made after the other, and it is all one
+/// which is made first.
+pub fn apart_steps_commute()
+    ensures { ApartStepsCommute }
+{}
+
+/// The totals follow a step: the count of a kind of holder loses the bytes that leave it and gains those that come to it.
+pub fn totals_follow_steps()
+    ensures { StepsFollow }
+{}
+
+/// An object that is granted was no object's: its bytes were rest, private or in the hand of the seat that grants, and its
+/// grant has the seat's next number.
+pub fn grants_are_fresh()
+    ensures { GrantsAreFresh }
+{}
