@@ -3,3 +3,4 @@ pub mod SlabLemmas
 pub mod RegionLemmas
 pub mod ListLemmas
 pub mod LeakLemmas
+pub mod ReplayLemmas

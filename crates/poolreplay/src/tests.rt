@@ -116,7 +116,7 @@ fn the_first_line_that_is_not_served_is_refused(rt: HostRuntime) -> Result<(), F
         ("threads A\npool P0 fixed\nA P0 free x\n", 3),
         ("threads A\npool P0 fixed\nA P0 x = malloc 100", 3),
         (
-            "threads A\npool P0 fixed\nA P0 x = malloc 1\nA P0 y = malloc 1\n",
+            "threads A\npool P0 fixed\nA P0 x = malloc 1\nA P0 x = malloc 1\n",
             4,
         ),
     ];
