@@ -1,10 +1,10 @@
 -- Laws of the partition machine's lawful moves and of its runs.
-use Rattle.std.specs.Prelude.{◌≡◌, ℕ, ◌==◌, Bool, true, false, if◌then◌else◌, List, All, Contains, Option, Some}
-use Rattle.std.specs.List.{list_any}
+use Rattle.std.specs.Prelude.{◌≡◌, ℕ, ◌==◌, Bool, true, false, List, All, Contains, Option, Some}
 use Rattle.pool_types.specs.declared.values.Place.{Place}
 use Rattle.pool_types.specs.declared.policy.RegionRec.{RegionRec}
 use Rattle.part_model.specs.declared.holders.Holder.{Holder}
 use Rattle.part_model.specs.declared.holders.Holder.TheVariants.{Rest, Private, Object, Hand}
+use Rattle.part_model.specs.declared.moves.Range.{Range}
 use Rattle.part_model.specs.declared.moves.Part.{Part}
 use Rattle.part_model.specs.Holding.{lies_in, CanMoveAll}
 use Rattle.part_model.specs.Totals.{has_holder, region_bytes, totals_of}
@@ -53,13 +53,14 @@ abbrev pub GrantsAreFresh : Type 0
 GrantsAreFresh = (terms : Terms) (progress : Progress) (entry : Entry) → MayStep terms progress entry →
     (part : Part) → Contains entry.parts part → is_object part.to ≡ true → MakesFresh progress.state entry.seat part
 
--- the byte lies in a live region of the pool
-abbrev pub is_in_regions : Terms → State → Place → Bool
-is_in_regions terms state byte = list_any (λ region. lies_in byte (region_range terms.limits.pool region 0 region.region.bytes)) state.regions
+-- all bytes of a region of the pool
+abbrev pub all_bytes : Terms → RegionRec → Range
+all_bytes terms region = region_range terms.limits.pool region 0 region.region.bytes
 
 -- each byte of each live region has exactly one holder, and no other byte has one
-abbrev pub HaveOneHolder : Terms → State → Type 0
-HaveOneHolder terms state = (byte : Place) → holders_of state.held byte ≡ (if is_in_regions terms state byte then 1 else 0)
+pub record HaveOneHolder (terms : Terms) (state : State) : Type 0 where
+  pub one : (region : RegionRec) → Contains state.regions region → (byte : Place) → lies_in byte (all_bytes terms region) ≡ true → holders_of state.held byte ≡ 1
+  pub none : (byte : Place) → ((region : RegionRec) → Contains state.regions region → lies_in byte (all_bytes terms region) ≡ true → ⊥) → holders_of state.held byte ≡ 0
 
 -- in a run each byte of each region has exactly one holder, at any time
 abbrev pub RunsHaveOneHolder : Type 0

@@ -1,5 +1,5 @@
 //! Laws of the lawful moves and of runs. Each is what a function with an empty body ensures.
-ghost use Rattle.machine.specs.Laws.{StepsKeepOne, ApartStepsCommute, StepsFollow, GrantsAreFresh};
+ghost use Rattle.machine.specs.Laws.{StepsKeepOne, ApartStepsCommute, StepsFollow, GrantsAreFresh, RunsHaveOneHolder, RunsSum};
 
 /// A step keeps exactly one holder a byte: a byte of the pool has one afterwards, but where the step takes it out of the
 /// pool, and a byte that wasn't in the pool has one exactly where the step brings it in.
@@ -22,4 +22,15 @@ pub fn totals_follow_steps()
 /// grant has the seat's next number.
 pub fn grants_are_fresh()
     ensures { GrantsAreFresh }
+{}
+
+/// In a run each byte of each live region has exactly one holder, at any time, and no other byte has one.
+pub fn runs_have_one_holder()
+    ensures { RunsHaveOneHolder }
+{}
+
+/// In a run the totals of all kinds of holders sum to the bytes of the live regions, at any time: each region has as many
+/// bytes with a holder as its record says.
+pub fn runs_sum_to_their_regions()
+    ensures { RunsSum }
 {}
