@@ -4,3 +4,10 @@ pub mod RegionLemmas
 pub mod ListLemmas
 pub mod LeakLemmas
 pub mod ReplayLemmas
+pub mod Spans
+pub mod Holds
+pub mod Grants
+pub mod Begins
+pub mod Legal
+pub mod Calls
+pub mod Journals

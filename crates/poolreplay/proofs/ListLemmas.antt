@@ -1,6 +1,5 @@
 -- What a whole malloc does to the lists.
-use Prim.Native.Nat.{zero, suc}
-use Rattle.std.proofs.Common.{◌≡◌, ℕ, ◌+◌, ◌<◌, ◌≤◌, Bool, true, false, ◌==◌, List, length, get_or, Some, None, refl, sym, ◌∙◌, ap, arith, nat_lt, subst}
+use Rattle.std.proofs.Common.{◌≡◌, ℕ, ◌+◌, ◌<◌, ◌≤◌, Bool, true, false, ◌==◌, List, length, get_or, Some, None, sym, ◌∙◌, arith, nat_lt, subst}
 use Rattle.std.specs.Prelude.{if◌then◌else◌, Result, Ok, Err, OnOk}
 use Rattle.std.specs.List.{position}
 use Rattle.std.specs.declared.option.Option.{Option}
@@ -9,7 +8,7 @@ use Rattle.std.proofs.lemmas.Bool.{and_parts, eqb-true, ltb-true}
 use Rattle.size_classes.specs.Classes.{class_objects, first_class}
 use Rattle.size_classes.proofs.Positions.{first_class-found, first_class-some}
 use Rattle.size_classes.proofs.Sizes.{class_objects-least}
-use Rattle.poolreplay.specs.Lists.{SlabGrants, Lists, has_free, whole, whole_at, from_fresh, refused, no_slab}
+use Rattle.poolreplay.specs.Lists.{SlabGrants, Lists, has_free, whole, whole_at, from_fresh, refused}
 
 -- the slab that was found
 pub slab_found : (slabs : List SlabGrants) (class i : ℕ) (slab : SlabGrants) → position (has_free class) slabs ≡ Some i → slab ≡ get_or slabs i slab →

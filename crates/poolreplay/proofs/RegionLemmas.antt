@@ -1,9 +1,9 @@
 -- What a callback without a script gives first.
-use Rattle.std.proofs.Common.{◌≡◌, ℕ, ◌+◌, ◌*◌, ◌<◌, ◌≤◌, Bool, true, false, not, List, [], length, Some, None, refl, sym, ap, ◌∙◌, arith, lit<, lit≤, subst, zero, suc}
+use Rattle.std.proofs.Common.{◌≡◌, ℕ, ◌+◌, ◌*◌, ◌<◌, Bool, true, false, not, [], Some, None, refl, ap, ◌∙◌, arith, lit<, lit≤, subst, zero, suc}
 use Rattle.std.specs.Prelude.{is_some, IfNone, unwrap_or}
 use Rattle.std.specs.declared.option.Option.{Option}
 use Rattle.pool_types.specs.declared.values.Region.{Region}
-use Rattle.pool_types.specs.Script.{Script, Gets, IsAnswer, IsByRule, IsLeastFree}
+use Rattle.pool_types.specs.Script.{Script, Gets, IsAnswer, IsByRule}
 use Rattle.poolreplay.specs.Lists.{first_region}
 
 -- a callback without a script, and without a region out

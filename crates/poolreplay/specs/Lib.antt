@@ -1,4 +1,5 @@
 pub mod Fresh
+pub mod Journal
 pub mod Lists
 pub mod Held
 pub mod Replay

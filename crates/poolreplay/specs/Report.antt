@@ -3,9 +3,9 @@ use Rattle.std.specs.Prelude.{ℕ, ◌+◌, List, [], ◌∷◌, ◌++◌, codes
 use Rattle.std.specs.Fmt.{decimal}
 use Rattle.pool_types.specs.declared.values.Place.{Place}
 use Rattle.pool_types.specs.declared.values.Answer.{Answer}
-use Rattle.pool_types.specs.declared.values.Answer.TheVariants.{Got, Null, Freed, False, Size, Pool as OfPool, NoPool, NotHeld, Exited}
+use Rattle.pool_types.specs.declared.values.Answer.TheVariants.{Got, Null}
 use Rattle.pool_types.specs.declared.values.NullCause.{NullCause}
-use Rattle.pool_types.specs.declared.values.NullCause.TheVariants.{BadRequest, FreedByRealloc, NumbersSpent, TooLarge, RawFailed, SpanFull, RegionsFull, NoFit}
+use Rattle.pool_types.specs.declared.values.NullCause.TheVariants.{NoFit}
 use Rattle.pool_types.specs.declared.values.Looks.{Looks}
 use Rattle.pool_types.specs.declared.values.Leak.{Leak}
 use Rattle.trace_reader.specs.declared.first.FirstAct.{FirstAct}

@@ -1,5 +1,5 @@
 -- What is still to be written while the calls of a trace are run.
-use Rattle.std.specs.Prelude.{ℕ, ◌+◌, ◌≤◌, List, [], ◌∷◌, ◌++◌}
+use Rattle.std.specs.Prelude.{ℕ, ◌≤◌, List, ◌++◌}
 use Rattle.trace_reader.specs.declared.first.FirstAct.{FirstAct}
 use Rattle.trace_reader.specs.declared.first.FirstAct.TheVariants.{Threads, Pool, Malloc}
 use Rattle.poolreplay.specs.Lists.{Lists, no_lists, lists_after, answers_to}

@@ -11,12 +11,11 @@ ghost use Rattle.poolreplay.specs.Held.{totals_at, leak_at, slab_head, slab_rest
 mod region;
 mod slab;
 
-pub use region::OneRegion;
-pub use slab::Slab;
-
 use part_model::Totals;
 use pool_types::{Answer, Grant, Leak, Looks, NullCause, Place};
+pub use region::OneRegion;
 use size_classes::{Class, class_of};
+pub use slab::Slab;
 use slab_core::object_offset;
 use std::alloc::{AllocError, Global};
 use std::marker::Model;

@@ -114,8 +114,7 @@ pub line_stands : (stage next : Stage) (set more : NameSet) (acts : List FirstAc
     IsLine before words act × Stands next more (acts ++ act ∷ []) (after_line before act)
 line_stands stage next set more acts before words act fresh stands shape few binds is moves =
     let form : IsForm before words act = form_stands stage set acts before words act stands shape in
-    let count : lines_in (after_line before act) ≡ lines_in before + 1 = lines_in-after before words act form in
-    (
+    let count : lines_in (after_line before act) ≡ lines_in before + 1 = lines_in-after before words act form in (
       (form, new_name before words act set more fresh form (omega (arith, few, stands.count)) stands.names_are binds is),
       record {
         stage_is = subst (λ (b : Before). stage_of next (names_in (after_line b act)) ≡ after_line b act) stands.stage_is (moves (names_in before));

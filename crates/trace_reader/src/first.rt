@@ -130,11 +130,7 @@ fn text_of(name: &BoundName) -> &str
 
 /// Binds the name that the line binds, and answers whether it was not bound before. A line that binds none is answered
 /// true.
-fn bind(
-    alloc: Global,
-    names: &mut HashSet<String>,
-    act: &FirstAct,
-) -> Result<bool, AllocError>
+fn bind(alloc: Global, names: &mut HashSet<String>, act: &FirstAct) -> Result<bool, AllocError>
     requires { HasBoundName act.now }
     ensures { IfOk result (λ fresh. BindsName act.now names.old fresh names.new) }
 {

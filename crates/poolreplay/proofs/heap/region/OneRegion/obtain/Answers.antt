@@ -1,6 +1,3 @@
-use Rattle.std.proofs.Common.{◌≡◌, Some}
-use Rattle.std.specs.Prelude.{unwrap_or}
-use Rattle.poolreplay.specs.Lists.{first_region}
 use Rattle.poolreplay.proofs.RegionLemmas.{given_first}
 use Rattle.poolreplay.proofs.heap.region.OneRegion.obtain.Goals as goal
 
