@@ -11,3 +11,4 @@ pub mod Begins
 pub mod Legal
 pub mod Calls
 pub mod Journals
+pub mod HeldLeaks

@@ -23,6 +23,8 @@ use Rattle.poolreplay.specs.Journal.{events_to}
 use Rattle.poolreplay.specs.Running.{run_text}
 use Rattle.poolreplay.specs.Replay.{IsReplayed}
 use Rattle.poolreplay.proofs.RegionLemmas.{first_by_rule}
+use Rattle.poolreplay.specs.Leaks.{AreLeaks}
+use Rattle.poolreplay.proofs.HeldLeaks.{leaks_are}
 use Rattle.poolreplay.proofs.Holds.{regions_of}
 use Rattle.poolreplay.proofs.Journals.{JournalRuns, journal_runs, nothing_holds, answers_in-events, requests_in-events}
 
@@ -109,5 +111,7 @@ replayed bytes text acts spelled report =
       run = journal.run;
       asked = requests_in-events no_lists (sizes_of acts);
       region = subst (λ (progress : Progress). end progress.state) (sym journal.after) given;
+      leaks = leaks_at (lists_after no_lists (sizes_of acts));
+      held = subst (λ (progress : Progress). AreLeaks progress.state.held (leaks_at (lists_after no_lists (sizes_of acts)))) (sym journal.after) (leaks_are journal.next (lists_after no_lists (sizes_of acts)) journal.holds);
       report = report ∙ ap (λ (answers : List Answer). report_text acts answers (totals_at (lists_after no_lists (sizes_of acts))) (leaks_at (lists_after no_lists (sizes_of acts)))) (sym (answers_in-events no_lists (sizes_of acts)));
     }

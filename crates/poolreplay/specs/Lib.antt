@@ -1,5 +1,6 @@
 pub mod Fresh
 pub mod Journal
+pub mod Leaks
 pub mod Lists
 pub mod Held
 pub mod Replay
