@@ -1,2 +1,14 @@
-pub mod ReportLemmas
 pub mod StreamLemmas
+pub mod SlabLemmas
+pub mod RegionLemmas
+pub mod ListLemmas
+pub mod LeakLemmas
+pub mod ReplayLemmas
+pub mod Spans
+pub mod Holds
+pub mod Grants
+pub mod Begins
+pub mod Legal
+pub mod Calls
+pub mod Journals
+pub mod HeldLeaks

@@ -1,11 +1,16 @@
 -- The text of a report.
-use Rattle.std.specs.Prelude.{ℕ, ◌-◌, ◌*◌, List, [], ◌∷◌, ◌++◌, codes, Option, Some, None}
+use Rattle.std.specs.Prelude.{ℕ, ◌+◌, List, [], ◌∷◌, ◌++◌, codes}
 use Rattle.std.specs.Fmt.{decimal}
 use Rattle.pool_types.specs.declared.values.Place.{Place}
-use Rattle.size_classes.specs.Classes.{first_class, class_size, class_objects}
+use Rattle.pool_types.specs.declared.values.Answer.{Answer}
+use Rattle.pool_types.specs.declared.values.Answer.TheVariants.{Got, Null}
+use Rattle.pool_types.specs.declared.values.NullCause.{NullCause}
+use Rattle.pool_types.specs.declared.values.NullCause.TheVariants.{NoFit}
+use Rattle.pool_types.specs.declared.values.Looks.{Looks}
+use Rattle.pool_types.specs.declared.values.Leak.{Leak}
 use Rattle.trace_reader.specs.declared.first.FirstAct.{FirstAct}
 use Rattle.trace_reader.specs.declared.first.FirstAct.TheVariants.{Threads, Pool, Malloc}
-use Rattle.poolreplay.specs.declared.report.Totals.{Totals}
+use Rattle.part_model.specs.declared.totals.Totals.{Totals}
 
 -- a place, as P0.R0+128
 abbrev pub place_text : Place → List ℕ
@@ -35,54 +40,57 @@ block_totals_text totals = codes " bin " ++ (decimal totals.bin ++ (codes " queu
 unfoldable pub total_text : Totals → List ℕ
 total_text totals = codes "total P0" ++ (region_totals_text totals ++ (slab_totals_text totals ++ (object_totals_text totals ++ (block_totals_text totals ++ codes "\n"))))
 
--- a pool that has no region
-abbrev pub no_bytes : Totals
-no_bytes = record { regions = 0; bytes = 0; waste = 0; head = 0; rest = 0; private = 0; public = 0; object = 0; large_head = 0; slab_cache = 0; cached = 0; bin = 0; queue = 0; hand = 0 }
+-- the leaks, a line each
+abbrev pub leaks_text : List ℕ → List Leak → List ℕ
+leaks_text name [] = []
+leaks_text name (leak ∷ leaks) = codes "leak " ++ (object_text leak.place leak.usable name leak.grant.number ++ (codes "\n" ++ leaks_text name leaks))
 
--- A pool that has handed out one object of the class, from the slab at the front of its region. The slab's head is
--- what its objects leave of its 16384 bytes, and the rest is its other objects.
-abbrev pub first_bytes : ℕ → Totals
-first_bytes class = record no_bytes {
-  regions = 1;
-  bytes = 1048576;
-  head = 16384 - class_objects class * class_size class;
-  rest = (class_objects class - 1) * class_size class;
-  object = class_size class;
-  bin = 1048576 - 16384;
-}
+-- a scan of bins in which no block fitted
+unfoldable pub looks_text : Looks → List ℕ
+looks_text looks = codes "null no-fit " ++ (decimal looks.first ++ (codes ".." ++ (decimal looks.last ++ (codes " " ++ decimal looks.seen))))
 
--- the last object of the slab at the front of the region
-abbrev pub first_place : ℕ → Place
-first_place class = record { pool = 0; region = 0; offset = 16384 - class_size class }
+-- why a call answered null; a malloc of a pool that is served has no other cause
+abbrev pub cause_text : NullCause → List ℕ
+cause_text (NoFit looks) = looks_text looks
+cause_text _ = []
 
--- the first object of the class, handed to the thread of this name
-unfoldable pub first_object_text : List ℕ → ℕ → List ℕ
-first_object_text name class = object_text (first_place class) (class_size class) name 1
+-- an answer to the thread of this name; a malloc has no other
+abbrev pub answer_text : List ℕ → Answer → List ℕ
+answer_text name (Got place usable grant) = codes "got " ++ object_text place usable name grant.number
+answer_text name (Null cause) = cause_text cause
+answer_text name _ = []
 
--- the totals of a pool that has handed out one object of the class, and that object as a leak
-unfoldable pub held_text : List ℕ → ℕ → List ℕ
-held_text name class = total_text (first_bytes class) ++ (codes "leak " ++ (first_object_text name class ++ codes "\n"))
+-- the sizes that the lines ask for
+abbrev pub sizes_of : List FirstAct → List ℕ
+sizes_of [] = []
+sizes_of (Threads thread ∷ acts) = sizes_of acts
+sizes_of (Pool ∷ acts) = sizes_of acts
+sizes_of (Malloc bound size ∷ acts) = size ∷ sizes_of acts
 
--- what a malloc in line 3 reports, where the size has this class, and the pool's state after it
-abbrev pub malloc_text : List ℕ → Option ℕ → List ℕ
-malloc_text name (Some class) = codes "3 got " ++ (first_object_text name class ++ (codes "\n" ++ held_text name class))
-malloc_text name None = []
+-- The answers to these calls of the thread of this name, each with its line's number, of which this is the first. A line
+-- that is no call, or has no answer, reports nothing.
+abbrev pub calls_text : List ℕ → ℕ → List FirstAct → List Answer → List ℕ
+calls_text name line [] answers = []
+calls_text name line (Threads thread ∷ acts) answers = calls_text name (line + 1) acts answers
+calls_text name line (Pool ∷ acts) answers = calls_text name (line + 1) acts answers
+calls_text name line (Malloc bound size ∷ acts) [] = []
+calls_text name line (Malloc bound size ∷ acts) (answer ∷ answers) =
+    decimal line ++ (codes " " ++ (answer_text name answer ++ (codes "\n" ++ calls_text name (line + 1) acts answers)))
 
--- what the calls of the thread of this name report, and the pool's state after them
-abbrev pub calls_text : List ℕ → List FirstAct → List ℕ
-calls_text name (Malloc bound size ∷ acts) = malloc_text name (first_class size)
-calls_text name _ = total_text no_bytes
+-- what a pool holds at the end
+abbrev pub held_text : List ℕ → Totals → List Leak → List ℕ
+held_text name totals leaks = total_text totals ++ leaks_text name leaks
 
--- what the lines behind the first report
-abbrev pub pool_text : List ℕ → List FirstAct → List ℕ
-pool_text name (Pool ∷ acts) = codes "2 made\n" ++ calls_text name acts
-pool_text name _ = []
+-- the answers to the calls behind the pool's line, and what the pool holds after them
+abbrev pub pool_text : List ℕ → List FirstAct → List Answer → Totals → List Leak → List ℕ
+pool_text name (Pool ∷ acts) answers totals leaks = codes "2 made\n" ++ (calls_text name 3 acts answers ++ held_text name totals leaks)
+pool_text name _ answers totals leaks = []
 
 -- what a trace reports before its end
-abbrev pub lines_text : List FirstAct → List ℕ
-lines_text (Threads thread ∷ acts) = pool_text thread.bytes.items acts
-lines_text _ = []
+abbrev pub lines_text : List FirstAct → List Answer → Totals → List Leak → List ℕ
+lines_text (Threads thread ∷ acts) answers totals leaks = pool_text thread.bytes.items acts answers totals leaks
+lines_text _ answers totals leaks = []
 
--- the report of a trace, whose lines do this
-abbrev pub report_text : List FirstAct → List ℕ
-report_text acts = lines_text acts ++ codes "end\n"
+-- the report of a trace, whose lines do this, whose calls had these answers, and whose pool then holds this
+abbrev pub report_text : List FirstAct → List Answer → Totals → List Leak → List ℕ
+report_text acts answers totals leaks = lines_text acts answers totals leaks ++ codes "end\n"

@@ -1,9 +1,10 @@
 //! Replays a trace of pool calls from standard input, and reports on standard output what each call answered.
 //!
-//! Modules: `replay` (from the command's words and the trace's bytes to the status and the bytes that are written),
+//! Modules: `heap` (a pool as plain lists), `replay` (from the command's words and the trace's bytes to the status and the bytes that are written),
 //! `report` (the text of a trace's report), `streams` (reading a source to its end, and writing a whole text).
 #![tactic(auto)]
 
+mod heap;
 mod replay;
 mod report;
 mod streams;

@@ -1,37 +1,17 @@
 //! The text of a trace's report. The report is this project's own; `docs/trace.md` has its form.
-ghost use Rattle.std.specs.Prelude.{◌≡◌, ◌++◌, List, ℕ, OnOk, IfOk};
-ghost use Rattle.size_classes.specs.Classes.{first_class};
-ghost use Rattle.poolreplay.specs.Report.{place_text, object_text, region_totals_text, slab_totals_text, object_totals_text, block_totals_text, total_text, first_bytes, held_text, first_object_text, malloc_text, calls_text, pool_text, report_text};
+ghost use Rattle.std.specs.Prelude.{◌≡◌, ◌≤◌, ◌<◌, ◌+◌, ◌-◌, ◌^◌, ◌++◌, [], ◌∷◌, List, ℕ, OnOk, IfOk, All, length};
+ghost use Rattle.trace_reader.specs.declared.first.FirstAct.{FirstAct};
+ghost use Rattle.poolreplay.specs.Lists.{no_lists, lists_after, answers_to};
+ghost use Rattle.poolreplay.specs.Held.{leaks_below, leaks_from};
+ghost use Rattle.poolreplay.specs.Report.{place_text, object_text, region_totals_text, slab_totals_text, object_totals_text, block_totals_text, total_text, looks_text, answer_text, leaks_text, sizes_of};
+ghost use Rattle.poolreplay.specs.Running.{IsSmall, text_due, lists_due, lists_text, pool_run_text, run_text};
 
-use pool_types::Place;
-use size_classes::{Class, class_of};
+use crate::heap::{Heap, Slab, leak_of};
+use part_model::Totals;
+use pool_types::{Answer, Leak, Looks, NullCause, Place};
 use std::alloc::Global;
 use std::io::{self, Write};
 use trace_reader::FirstAct;
-
-/// The bytes of a pool's region, and those of the slab at its front.
-const REGION_BYTES: u64 = 1048576;
-
-const SLAB_BYTES: u64 = 16384;
-
-/// How many regions a pool has, their bytes, and the bytes at each kind of holder.
-#[derive(Clone, Copy, Debug, Default, PartialEq, Eq)]
-pub struct Totals {
-    pub regions: u64,
-    pub bytes: u64,
-    pub waste: u64,
-    pub head: u64,
-    pub rest: u64,
-    pub private: u64,
-    pub public: u64,
-    pub object: u64,
-    pub large_head: u64,
-    pub slab_cache: u64,
-    pub cached: u64,
-    pub bin: u64,
-    pub queue: u64,
-    pub hand: u64,
-}
 
 /// Adds a place, as `P0.R0+128`.
 fn add_place(text: &mut Vec<u8>, place: Place) -> io::Result<()>
@@ -134,79 +114,136 @@ fn add_totals(text: &mut Vec<u8>, totals: Totals) -> io::Result<()>
     text.write_all(b"\n")
 }
 
-/// What a pool holds that has handed out one object of the class.
-#[tactic(auto, using(crate::proofs::ReportLemmas::slab_bytes))]
-fn totals_after_first(class: Class) -> Totals
-    ensures { result ≡ first_bytes class }
+/// Adds a line for an object that is held.
+fn add_leak(text: &mut Vec<u8>, name: &[u8], leak: Leak) -> io::Result<()>
+    ensures { OnOk result (text.new.items ≡ text.old.items ++ leaks_text name.now (leak ∷ [])) }
 {
-    let objects = u64::from(class.objects()) * class.size();
-    Totals {
-        regions: 1,
-        bytes: REGION_BYTES,
-        head: SLAB_BYTES - objects,
-        rest: objects - class.size(),
-        object: class.size(),
-        bin: REGION_BYTES - SLAB_BYTES,
-        ..Totals::default()
-    }
-}
-
-/// Adds the pool's totals and its one object as a leak, where the thread has this name.
-#[tactic(auto, unfolding(crate::specs::Report::held_text))]
-fn add_held(text: &mut Vec<u8>, name: &[u8], class: Class) -> io::Result<()>
-    ensures { OnOk result (text.new.items ≡ text.old.items ++ held_text name.now class) }
-{
-    add_totals(text, totals_after_first(class))?;
     text.write_all(b"leak ")?;
-    add_first_object(text, name, class)?;
+    add_object(text, leak.place, leak.usable, name, leak.grant.number)?;
     text.write_all(b"\n")
 }
 
-/// Adds the first object of the class, and that the thread of this name has it.
-#[tactic(auto, unfolding(crate::specs::Report::first_object_text))]
-fn add_first_object(text: &mut Vec<u8>, name: &[u8], class: Class) -> io::Result<()>
-    ensures { OnOk result (text.new.items ≡ text.old.items ++ first_object_text name.now class) }
+/// Adds the objects of the slab that was begun as the `i`-th, from the lowest on.
+fn add_slab_leaks(text: &mut Vec<u8>, name: &[u8], i: usize, slab: &Slab) -> io::Result<()>
+    requires { i < 64 }
+    ensures { OnOk result (text.new.items ≡ text.old.items ++ leaks_text name.now (leaks_below i slab.now (length slab.now.numbers))) }
 {
-    let usable = class.size();
-    let place = Place {
-        pool: 0,
-        region: 0,
-        offset: SLAB_BYTES - usable,
-    };
-    add_object(text, place, usable, name, 1)
+    let mut object = slab.numbers().len();
+    while object > 0 {
+        object -= 1;
+        add_leak(text, name, leak_of(i, slab, object))?;
+    }
+    Ok(())
 }
 
-/// Adds the answer to a malloc of this size in line 3, and what the pool holds after it.
-fn add_malloc(text: &mut Vec<u8>, name: &[u8], size: u64) -> io::Result<()>
-    ensures { OnOk result (text.new.items ≡ text.old.items ++ malloc_text name.now (first_class size)) }
+/// Adds the objects of all slabs, by their places.
+fn add_leaks(text: &mut Vec<u8>, name: &[u8], slabs: &[Slab]) -> io::Result<()>
+    requires { length slabs.now ≤ 64 }
+    ensures { OnOk result (text.new.items ≡ text.old.items ++ leaks_text name.now (leaks_from 0 slabs.now)) }
 {
-    let Some(class) = class_of(size) else {
-        return Ok(());
-    };
-    text.write_all(b"3 got ")?;
-    add_first_object(text, name, class)?;
-    text.write_all(b"\n")?;
-    add_held(text, name, class)
+    for (i, slab) in slabs.iter().enumerate() {
+        add_slab_leaks(text, name, i, slab)?;
+    }
+    Ok(())
 }
 
-/// Adds what these calls of the thread with this name report.
-fn add_calls(text: &mut Vec<u8>, name: &[u8], acts: &[FirstAct]) -> io::Result<()>
-    ensures { OnOk result (text.new.items ≡ text.old.items ++ calls_text name.now acts.now) }
+/// Adds what a pool holds.
+fn add_held(text: &mut Vec<u8>, name: &[u8], heap: &Heap) -> io::Result<()>
+    ensures { OnOk result (text.new.items ≡ text.old.items ++ lists_text name.now heap.now) }
 {
-    match acts.first() {
-        Some(FirstAct::Malloc { size, .. }) => add_malloc(text, name, *size),
-        _ => add_totals(text, Totals::default()),
+    add_totals(text, heap.totals())?;
+    add_leaks(text, name, heap.slabs())
+}
+
+/// Adds that none of the blocks in the bins looked at fitted.
+#[tactic(auto, unfolding(crate::specs::Report::looks_text))]
+fn add_looks(text: &mut Vec<u8>, looks: Looks) -> io::Result<()>
+    ensures { OnOk result (text.new.items ≡ text.old.items ++ looks_text looks) }
+{
+    let Looks { first, last, seen } = looks;
+    write!(text, "null no-fit {first}..{last} {seen}")
+}
+
+/// Adds the answer to a malloc, to the thread of this name. Such an answer is an object or that no block fits.
+fn add_answer(text: &mut Vec<u8>, name: &[u8], answer: Answer) -> io::Result<()>
+    ensures { OnOk result (text.new.items ≡ text.old.items ++ answer_text name.now answer) }
+{
+    match answer {
+        Answer::Got {
+            place,
+            usable,
+            grant,
+        } => {
+            text.write_all(b"got ")?;
+            add_object(text, place, usable, name, grant.number)
+        }
+        Answer::Null(NullCause::NoFit(looks)) => add_looks(text, looks),
+        _ => Ok(()),
     }
 }
 
+/// Runs the call in this line, and adds its answer.
+fn run_call(
+    alloc: Global,
+    heap: &mut Heap,
+    text: &mut Vec<u8>,
+    name: &[u8],
+    line: u64,
+    act: &FirstAct,
+) -> io::Result<()>
+    requires room { heap.old.granted < 2 ^ 64 - 1 }
+    requires small { IsSmall act.now }
+    ensures text { OnOk result ((rest : List FirstAct) → text_due text.new.items name.now (line + 1) heap.new rest ≡ text_due text.old.items name.now line heap.old (act.now ∷ rest)) }
+    ensures lists { OnOk result ((rest : List FirstAct) → lists_due heap.new rest ≡ lists_due heap.old (act.now ∷ rest)) }
+    ensures granted { OnOk result (heap.new.granted ≤ heap.old.granted + 1) }
+{
+    let FirstAct::Malloc { size, .. } = act else {
+        return Ok(());
+    };
+    let answer = heap.malloc(alloc, *size)?;
+    write!(text, "{line} ")?;
+    add_answer(text, name, answer)?;
+    text.write_all(b"\n")
+}
+
+/// Runs the calls behind the pool's line, and adds their answers.
+fn run_calls(
+    alloc: Global,
+    heap: &mut Heap,
+    text: &mut Vec<u8>,
+    name: &[u8],
+    acts: &[FirstAct],
+) -> io::Result<()>
+    requires fresh { heap.old ≡ no_lists }
+    requires small { All IsSmall acts.now }
+    ensures text { OnOk result (text.new.items ≡ text_due text.old.items name.now 3 no_lists acts.now) }
+    ensures lists { OnOk result (heap.new ≡ lists_due no_lists acts.now) }
+{
+    for (i, act) in acts.iter().enumerate() {
+        run_call(alloc, heap, text, name, i as u64 + 3, act)?;
+    }
+    Ok(())
+}
+
+/// Adds what these calls of the thread with this name report, and what the pool holds after them.
+fn add_calls(alloc: Global, text: &mut Vec<u8>, name: &[u8], acts: &[FirstAct]) -> io::Result<()>
+    requires { All IsSmall acts.now }
+    ensures { OnOk result (text.new.items ≡ text_due text.old.items name.now 3 no_lists acts.now ++ lists_text name.now (lists_due no_lists acts.now)) }
+{
+    let mut heap = Heap::new(alloc);
+    run_calls(alloc, &mut heap, text, name, acts)?;
+    add_held(text, name, &heap)
+}
+
 /// Adds what the lines behind the first report, where the thread has this name.
-fn add_pool(text: &mut Vec<u8>, name: &[u8], acts: &[FirstAct]) -> io::Result<()>
-    ensures { OnOk result (text.new.items ≡ text.old.items ++ pool_text name.now acts.now) }
+fn add_pool(alloc: Global, text: &mut Vec<u8>, name: &[u8], acts: &[FirstAct]) -> io::Result<()>
+    requires { All IsSmall acts.now }
+    ensures { OnOk result (text.new.items ≡ text.old.items ++ pool_run_text name.now acts.now) }
 {
     match acts.split_first() {
         Some((FirstAct::Pool, calls)) => {
             text.write_all(b"2 made\n")?;
-            add_calls(text, name, calls)
+            add_calls(alloc, text, name, calls)
         }
         _ => Ok(()),
     }
@@ -214,11 +251,12 @@ fn add_pool(text: &mut Vec<u8>, name: &[u8], acts: &[FirstAct]) -> io::Result<()
 
 /// The report of a trace, whose lines do this.
 pub fn report(alloc: Global, acts: &[FirstAct]) -> io::Result<Vec<u8>>
-    ensures { IfOk result (λ text. text.items ≡ report_text acts.now) }
+    requires { All IsSmall acts.now }
+    ensures { IfOk result (λ text. text.items ≡ run_text acts.now) }
 {
     let mut text = Vec::new(alloc);
     if let Some((FirstAct::Threads(thread), more)) = acts.split_first() {
-        add_pool(&mut text, thread.bytes.as_slice(), more)?;
+        add_pool(alloc, &mut text, thread.bytes.as_slice(), more)?;
     }
     text.write_all(b"end\n")?;
     Ok(text)

@@ -5,6 +5,7 @@ ghost use Rattle.std.specs.Prelude.{◌≤◌};
 use crate::replay::{Status, replay};
 use pool_types::{MemorySink, MemorySource};
 use std::alloc::{AllocError, Global};
+use std::io::{self, Write};
 use std::test::Fail;
 
 /// The report of one malloc of 100 bytes.
@@ -98,6 +99,46 @@ fn the_size_decides_place_and_usable_bytes(rt: HostRuntime) -> Result<(), Fail> 
     Ok(())
 }
 
+/// Two objects of the largest class a slab.
+const THREE_MALLOCS: &str = "2 made\n\
+    3 got P0.R0+8256 8128 A#1\n4 got P0.R0+128 8128 A#2\n5 got P0.R0+24640 8128 A#3\n\
+    total P0 regions 1 bytes 1048576 waste 0 head 256 rest 8128 private 0 public 0 object 24384 \
+    large-head 0 slab-cache 0 cached 0 bin 1015808 queue 0 hand 0\n\
+    leak P0.R0+128 8128 A#2\nleak P0.R0+8256 8128 A#1\nleak P0.R0+24640 8128 A#3\nend\n";
+
+/// The trace of so many mallocs of the largest class.
+fn mallocs(alloc: Global, count: u32) -> io::Result<Vec<u8>> {
+    let mut trace = Vec::from_slice(alloc, b"threads A\npool P0 fixed\n")?;
+    for number in 0..count {
+        writeln!(trace, "A P0 x{number} = malloc 8128")?;
+    }
+    Ok(trace)
+}
+
+/// Replays so many mallocs of the largest class.
+fn run_mallocs(alloc: Global, count: u32) -> io::Result<(Status, Vec<u8>)> {
+    let source = MemorySource::of(mallocs(alloc, count)?, 4096, Vec::new(alloc));
+    Ok(run(alloc, &[], source, sink_of(alloc, 4096, &[])?)?)
+}
+
+#[test]
+fn objects_of_a_class_fill_slab_after_slab(rt: HostRuntime) -> Result<(), Fail> {
+    let (status, text) = run_mallocs(rt.alloc(), 3)?;
+    assert_eq!(rt; status, Status::Done);
+    assert_eq!(rt; text.as_slice(), THREE_MALLOCS.as_bytes());
+    Ok(())
+}
+
+#[test]
+fn a_pool_whose_slabs_are_all_in_use_answers_null(rt: HostRuntime) -> Result<(), Fail> {
+    let (status, text) = run_mallocs(rt.alloc(), 129)?;
+    assert_eq!(rt; status, Status::Done);
+    let last = "\n130 got P0.R0+1032320 8128 A#128\n131 null no-fit 1..511 0\ntotal P0 ";
+    let text = String::from_utf8(text).ok().ok_or("no text")?;
+    assert!(rt; text.contains(last));
+    Ok(())
+}
+
 #[test]
 fn the_first_line_that_is_not_served_is_refused(rt: HostRuntime) -> Result<(), Fail> {
     let alloc = rt.alloc();
@@ -116,7 +157,7 @@ fn the_first_line_that_is_not_served_is_refused(rt: HostRuntime) -> Result<(), F
         ("threads A\npool P0 fixed\nA P0 free x\n", 3),
         ("threads A\npool P0 fixed\nA P0 x = malloc 100", 3),
         (
-            "threads A\npool P0 fixed\nA P0 x = malloc 1\nA P0 y = malloc 1\n",
+            "threads A\npool P0 fixed\nA P0 x = malloc 1\nA P0 x = malloc 1\n",
             4,
         ),
     ];

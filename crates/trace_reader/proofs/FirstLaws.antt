@@ -6,7 +6,7 @@ use Rattle.std.proofs.lemmas.Fmt.{decimal_injective}
 use Rattle.trace_reader.specs.declared.first.FirstAct.{FirstAct}
 use Rattle.trace_reader.specs.declared.first.FirstAct.TheVariants.{Threads, Pool, Malloc}
 use Rattle.trace_reader.specs.Words.{words_of}
-use Rattle.trace_reader.specs.First.{Before, Nothing, Thread, ThePool, TheMalloc, IsLine, AreLines, IsRefusedLine, SpellsOne, RefusedSpellsNone, RefusesOne, after_line, after_lines, threads_words, malloc_words}
+use Rattle.trace_reader.specs.First.{Before, Nothing, Thread, ThePool, IsForm, IsLine, AreLines, IsRefusedLine, SpellsOne, RefusedSpellsNone, RefusesOne, after_line, after_lines, threads_words, malloc_words}
 
 threads_one : (name other : List ℕ) → threads_words name ≡ threads_words other → name ≡ other
 threads_one name other same = cc
@@ -18,27 +18,29 @@ malloc_size : (thread name other : List ℕ) (size more : ℕ) → malloc_words 
 malloc_size thread name other size more same = cc
 
 -- the words of a line do one thing
-IsLine-one : (before : Before) (words : List (List ℕ)) (act other : FirstAct) → IsLine before words act → IsLine before words other → act ≡ other
-IsLine-one Nothing words (Threads name) (Threads other) line more =
+pub IsForm-one : (before : Before) (words : List (List ℕ)) (act other : FirstAct) → IsForm before words act → IsForm before words other → act ≡ other
+IsForm-one Nothing words (Threads name) (Threads other) line more =
     ap (λ (xs : List ℕ). Threads (record { bytes = record { items = xs } })) (threads_one name.bytes.items other.bytes.items (sym line.0 ∙ more.0))
-IsLine-one (Thread thread) words Pool Pool line more = refl
-IsLine-one (ThePool thread) words (Malloc name size) (Malloc other least) line more =
+IsForm-one (Thread thread) words Pool Pool line more = refl
+IsForm-one (ThePool thread names) words (Malloc name size) (Malloc other least) line more =
     let same : malloc_words thread name.bytes.items size ≡ malloc_words thread other.bytes.items least = sym line.0 ∙ more.0 in
     let sizes : size ≡ least = decimal_injective size least (omega (arith, line.2)) (omega (arith, more.2)) (malloc_size thread name.bytes.items other.bytes.items size least same) in
     ap (λ (xs : List ℕ). Malloc (record { bytes = record { items = xs } }) size) (malloc_name thread name.bytes.items other.bytes.items size least same) ∙ ap (λ (n : ℕ). Malloc other n) sizes
-IsLine-one Nothing words Pool other line more = absurd line
-IsLine-one Nothing words (Malloc name size) other line more = absurd line
-IsLine-one Nothing words (Threads name) Pool line more = absurd more
-IsLine-one Nothing words (Threads name) (Malloc other size) line more = absurd more
-IsLine-one (Thread thread) words (Threads name) other line more = absurd line
-IsLine-one (Thread thread) words (Malloc name size) other line more = absurd line
-IsLine-one (Thread thread) words Pool (Threads name) line more = absurd more
-IsLine-one (Thread thread) words Pool (Malloc name size) line more = absurd more
-IsLine-one (ThePool thread) words (Threads name) other line more = absurd line
-IsLine-one (ThePool thread) words Pool other line more = absurd line
-IsLine-one (ThePool thread) words (Malloc name size) (Threads other) line more = absurd more
-IsLine-one (ThePool thread) words (Malloc name size) Pool line more = absurd more
-IsLine-one TheMalloc words act other line more = absurd line
+IsForm-one Nothing words Pool other line more = absurd line
+IsForm-one Nothing words (Malloc name size) other line more = absurd line
+IsForm-one Nothing words (Threads name) Pool line more = absurd more
+IsForm-one Nothing words (Threads name) (Malloc other size) line more = absurd more
+IsForm-one (Thread thread) words (Threads name) other line more = absurd line
+IsForm-one (Thread thread) words (Malloc name size) other line more = absurd line
+IsForm-one (Thread thread) words Pool (Threads name) line more = absurd more
+IsForm-one (Thread thread) words Pool (Malloc name size) line more = absurd more
+IsForm-one (ThePool thread names) words (Threads name) other line more = absurd line
+IsForm-one (ThePool thread names) words Pool other line more = absurd line
+IsForm-one (ThePool thread names) words (Malloc name size) (Threads other) line more = absurd more
+IsForm-one (ThePool thread names) words (Malloc name size) Pool line more = absurd more
+
+IsLine-one : (before : Before) (words : List (List ℕ)) (act other : FirstAct) → IsLine before words act → IsLine before words other → act ≡ other
+IsLine-one before words act other line more = IsForm-one before words act other line.0 more.0
 
 -- the lines of a list do one thing each
 AreLines-one : (before : Before) (texts : List (List ℕ)) (acts others : List FirstAct) → AreLines before texts acts → AreLines before texts others → acts ≡ others

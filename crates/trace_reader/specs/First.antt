@@ -1,5 +1,10 @@
 -- The first traces, line by line.
-use Rattle.std.specs.Prelude.{◌≡◌, ◌≢◌, ℕ, ◌+◌, ◌≤◌, Bool, true, false, List, [], ◌∷◌, ◌++◌, length, codes, slice_get, Some, None, Result, Ok, Err, Vec}
+use Rattle.std.specs.Prelude.{◌≡◌, ◌≢◌, ℕ, ◌+◌, ◌<◌, ◌≤◌, Bool, true, false, not, cond, List, [], ◌∷◌, ◌++◌, length, codes, slice_get, Some, None, Result, Ok, Err, Vec, String}
+use Rattle.std.specs.List.{list_any}
+use Rattle.std.specs.Str.{bytes_eq}
+use Rattle.std.specs.HashSet.{HashSet, contains_text}
+use Rattle.std.specs.declared.hash.FoldHasher.{FoldHasher}
+use Rattle.std.specs.declared.hash.BuildHasherDefault.{BuildHasherDefault}
 use Rattle.std.specs.Global.{Global}
 use Rattle.std.specs.Fmt.{decimal}
 use Rattle.std.specs.declared.option.Option.{Option}
@@ -12,22 +17,16 @@ use Rattle.trace_reader.specs.declared.first.FirstAct.TheVariants.{Threads, Pool
 use Rattle.trace_reader.specs.declared.first.Lines.{Lines}
 use Rattle.trace_reader.specs.declared.first.Lines.TheVariants.{All, Refused}
 use Rattle.trace_reader.specs.declared.first.Stage.{Stage}
-use Rattle.trace_reader.specs.declared.first.Stage.TheVariants.{Start, Named, Made, Done}
+use Rattle.trace_reader.specs.declared.first.Stage.TheVariants.{Start, Named, Made}
 use Rattle.trace_reader.specs.Words.{split_on, words_of}
 use Rattle.trace_reader.specs.Names.{IsThreadName, IsBoundName}
 
--- what stands before a line: nothing, the line that names the thread, the pool's line too, or the malloc too
+-- what stands before a line: nothing, the line that names the thread, or the pool's line too, and mallocs that bound these names, of
+-- which the last stands first
 pub data Before : Type 0 where
   Nothing : Before
   Thread : List ℕ → Before
-  ThePool : List ℕ → Before
-  TheMalloc : Before
-
-abbrev pub stage_of : Stage → Before
-stage_of Start = Nothing
-stage_of (Named thread) = Thread thread.items
-stage_of (Made thread) = ThePool thread.items
-stage_of Done = TheMalloc
+  ThePool : List ℕ → List (List ℕ) → Before
 
 -- the words of the line that names the thread
 abbrev pub threads_words : List ℕ → List (List ℕ)
@@ -41,29 +40,42 @@ pool_words = codes "pool" ∷ codes "P0" ∷ codes "fixed" ∷ []
 abbrev pub malloc_words : List ℕ → List ℕ → ℕ → List (List ℕ)
 malloc_words thread name size = thread ∷ codes "P0" ∷ name ∷ codes "=" ∷ codes "malloc" ∷ decimal size ∷ []
 
+-- one of the names is this one
+abbrev pub is_bound : List (List ℕ) → List ℕ → Bool
+is_bound names name = list_any (λ bound. bytes_eq bound name) names
+
+-- the words are spelled as a line that does this, after what stands before
+abbrev pub IsForm : Before → List (List ℕ) → FirstAct → Type 0
+IsForm Nothing words (Threads name) = (words ≡ threads_words name.bytes.items) × IsThreadName name.bytes.items
+IsForm (Thread thread) words Pool = words ≡ pool_words
+IsForm (ThePool thread names) words (Malloc name size) = (words ≡ malloc_words thread name.bytes.items size) × IsBoundName name.bytes.items × (size ≤ 8128)
+IsForm Nothing words Pool = ⊥
+IsForm Nothing words (Malloc name size) = ⊥
+IsForm (Thread thread) words (Threads name) = ⊥
+IsForm (Thread thread) words (Malloc name size) = ⊥
+IsForm (ThePool thread names) words (Threads name) = ⊥
+IsForm (ThePool thread names) words Pool = ⊥
+
+-- The name that the line binds is new. A trace has 65536 lines at most, of which the first two bind no name.
+abbrev pub IsNew : Before → FirstAct → Type 0
+IsNew (ThePool thread names) (Malloc name size) = (is_bound names name.bytes.items ≡ false) × (length names < 65534)
+IsNew before act = Unit {0}
+
 -- the words are the line that does this, after what stands before
 abbrev pub IsLine : Before → List (List ℕ) → FirstAct → Type 0
-IsLine Nothing words (Threads name) = (words ≡ threads_words name.bytes.items) × IsThreadName name.bytes.items
-IsLine (Thread thread) words Pool = words ≡ pool_words
-IsLine (ThePool thread) words (Malloc name size) = (words ≡ malloc_words thread name.bytes.items size) × IsBoundName name.bytes.items × (size ≤ 8128)
-IsLine Nothing words Pool = ⊥
-IsLine Nothing words (Malloc name size) = ⊥
-IsLine (Thread thread) words (Threads name) = ⊥
-IsLine (Thread thread) words (Malloc name size) = ⊥
-IsLine (ThePool thread) words (Threads name) = ⊥
-IsLine (ThePool thread) words Pool = ⊥
-IsLine TheMalloc words act = ⊥
+IsLine before words act = IsForm before words act × IsNew before act
 
 -- what stands before the next line
 abbrev pub after_line : Before → FirstAct → Before
 after_line Nothing (Threads name) = Thread name.bytes.items
 after_line Nothing Pool = Nothing
 after_line Nothing (Malloc name size) = Nothing
-after_line (Thread thread) Pool = ThePool thread
+after_line (Thread thread) Pool = ThePool thread []
 after_line (Thread thread) (Threads name) = Thread thread
 after_line (Thread thread) (Malloc name size) = Thread thread
-after_line (ThePool thread) act = TheMalloc
-after_line TheMalloc act = TheMalloc
+after_line (ThePool thread names) (Malloc name size) = ThePool thread (name.bytes.items ∷ names)
+after_line (ThePool thread names) (Threads name) = ThePool thread names
+after_line (ThePool thread names) Pool = ThePool thread names
 
 abbrev pub after_lines : Before → List FirstAct → Before
 after_lines before [] = before
@@ -136,15 +148,58 @@ abbrev pub IsMallocLine : List ℕ → List (List ℕ) → Option (BoundName × 
 IsMallocLine thread words (Some line) = (words ≡ malloc_words thread line.0.bytes.items line.1) × IsBoundName line.0.bytes.items × (line.1 ≤ 8128)
 IsMallocLine thread words None = (name : List ℕ) (size : ℕ) → IsBoundName name → size ≤ 8128 → words ≢ malloc_words thread name size
 
--- what the line of these words does, or that it does nothing that may stand there
-abbrev pub IsLineOf : Before → List (List ℕ) → Option FirstAct → Type 0
-IsLineOf before words (Some act) = IsLine before words act
-IsLineOf before words None = (act : FirstAct) → IsLine before words act → ⊥
+-- what the line of these words does, or that it is spelled as none that may stand there
+abbrev pub IsFormOf : Before → List (List ℕ) → Option FirstAct → Type 0
+IsFormOf before words (Some act) = IsForm before words act
+IsFormOf before words None = (act : FirstAct) → IsForm before words act → ⊥
+
+-- the reader's stage, where mallocs bound these names
+abbrev pub stage_of : Stage → List (List ℕ) → Before
+stage_of Start names = Nothing
+stage_of (Named thread) names = Thread thread.items
+stage_of (Made thread) names = ThePool thread.items names
+
+-- the names that mallocs bound
+abbrev pub names_in : Before → List (List ℕ)
+names_in Nothing = []
+names_in (Thread thread) = []
+names_in (ThePool thread names) = names
+
+-- how many lines stand before
+abbrev pub lines_in : Before → ℕ
+lines_in Nothing = 0
+lines_in (Thread thread) = 1
+lines_in (ThePool thread names) = length names + 2
+
+-- the reader's set of names
+abbrev pub NameSet : Type 0
+NameSet = HashSet (String Global) (BuildHasherDefault FoldHasher)
+
+-- the reader has read what stands before
+pub record Stands (stage : Stage) (names : NameSet) (acts : List FirstAct) (before : Before) : Type 0 where
+  pub stage_is : stage_of stage (names_in before) ≡ before
+  pub names_are : (name : List ℕ) → contains_text names name ≡ is_bound (names_in before) name
+  pub count : length acts ≡ lines_in before
+  pub few : lines_in before ≤ 65536
+
+-- a name that the line binds is spelled as one
+abbrev pub HasBoundName : FirstAct → Type 0
+HasBoundName (Malloc name size) = IsBoundName name.bytes.items
+HasBoundName (Threads thread) = Unit {0}
+HasBoundName Pool = Unit {0}
+
+-- the set gains the name that the line binds, and whether it was new
+abbrev pub BindsName : FirstAct → NameSet → Bool → NameSet → Type 0
+BindsName (Malloc name size) old fresh new =
+    (fresh ≡ not (contains_text old name.bytes.items)) × ((other : List ℕ) → contains_text new other ≡ cond (bytes_eq name.bytes.items other) true (contains_text old other))
+BindsName (Threads thread) old fresh new = (fresh ≡ true) × (new ≡ old)
+BindsName Pool old fresh new = (fresh ≡ true) × (new ≡ old)
 
 -- one more line was read, or it does nothing that may stand there
-abbrev pub AddsLine : Before → List FirstAct → List ℕ → Bool → Before → List FirstAct → Type 0
-AddsLine before acts text true next more = (act : FirstAct) × IsLine before (words_of text) act × (next ≡ after_line before act) × (more ≡ acts ++ act ∷ [])
-AddsLine before acts text false next more = (act : FirstAct) → IsLine before (words_of text) act → ⊥
+abbrev pub AddsLine : Before → List FirstAct → List ℕ → Bool → Stage → NameSet → List FirstAct → Type 0
+AddsLine before acts text true stage names more =
+    (act : FirstAct) × IsLine before (words_of text) act × Stands stage names more (after_line before act) × (more ≡ acts ++ act ∷ [])
+AddsLine before acts text false stage names more = (act : FirstAct) → IsLine before (words_of text) act → ⊥
 
 -- a line that does nothing that may stand there, after lines that were read
 pub record IsFirstRefused (lines : List (List ℕ)) (line : ℕ) : Type 0 where
@@ -159,5 +214,5 @@ pub record IsFirstRefused (lines : List (List ℕ)) (line : ℕ) : Type 0 where
 
 -- all lines were read, or up to the first that is refused
 abbrev pub AreRead : List (List ℕ) → Lines → Type 0
-AreRead texts (All acts) = AreLines Nothing texts acts.items × (length texts ≤ 3)
+AreRead texts (All acts) = AreLines Nothing texts acts.items × (length texts ≤ 65536)
 AreRead texts (Refused line) = IsFirstRefused texts line

@@ -1,16 +1,22 @@
-//! The reader of the first traces: one thread, one fixed pool, and at most one malloc.
-ghost use Rattle.std.specs.Prelude.{◌≡◌, ◌≢◌, ◌≤◌, ℕ, true, false, ◌↔◌, List, map, IfOk, length};
+//! The reader of the first traces: one thread, one fixed pool, and mallocs that each bind a new name.
+ghost use Rattle.std.specs.Prelude.{◌≡◌, ◌≢◌, ◌≤◌, ℕ, true, false, ◌↔◌, List, [], map, IfOk, length};
+ghost use Rattle.std.specs.HashSet.{contains_text};
 ghost use Rattle.trace_reader.specs.Words.{items_of};
-ghost use Rattle.trace_reader.specs.First.{IsThreadsLine, IsSizeOf, IsMallocFrame, IsMallocLine, IsLineOf, AddsLine, AreRead, ReadsFirst, SpellsOne, RefusedSpellsNone, RefusesOne, stage_of, after_line, pool_words};
+ghost use Rattle.trace_reader.specs.Names.{IsBoundName};
+ghost use Rattle.trace_reader.specs.First.{Before, IsThreadsLine, IsSizeOf, IsMallocFrame, IsMallocLine, IsFormOf, HasBoundName, BindsName, Stands, AddsLine, AreRead, ReadsFirst, SpellsOne, RefusedSpellsNone, RefusesOne, stage_of, names_in, after_line, pool_words};
 
 use crate::names::{BoundName, ThreadName, read_bound_name, read_thread_name};
 use crate::numbers::read_number;
 use crate::refusal::{TraceError, TraceRefused};
 use crate::words::{is_same, split_parts};
 use std::alloc::{AllocError, Global};
+use std::collections::HashSet;
 
 /// The greatest size that a malloc of a first trace may ask for, in bytes.
 const GREATEST_SIZE: u64 = 8128;
+
+/// The most lines that a trace may have.
+const MOST_LINES: usize = 65536;
 
 /// What a line of a first trace does: it names the thread, makes the pool, or asks for so many bytes and binds a name
 /// to what it gets.
@@ -28,10 +34,8 @@ enum Stage {
     Start,
     /// The line that names this thread.
     Named(Vec<u8>),
-    /// The pool's line too.
+    /// The pool's line too, and then mallocs.
     Made(Vec<u8>),
-    /// And the malloc.
-    Done,
 }
 
 /// The name in a line that names the thread.
@@ -90,9 +94,9 @@ fn read_malloc(thread: &[u8], words: &[Vec<u8>]) -> Option<(BoundName, u64)>
     Some((name, size))
 }
 
-/// What the line of these words does, after the lines before.
+/// What a line of these words does after the lines before, but for whether the name that it binds is new.
 fn read_line(stage: &Stage, words: &[Vec<u8>]) -> Option<FirstAct>
-    ensures { IsLineOf (stage_of stage.now) (map items_of words.now) result }
+    ensures { IsFormOf (stage_of stage.now []) (map items_of words.now) result }
 {
     match stage {
         Stage::Start => match read_threads(words) {
@@ -110,13 +114,37 @@ fn read_line(stage: &Stage, words: &[Vec<u8>]) -> Option<FirstAct>
             Some((name, size)) => Some(FirstAct::Malloc { name, size }),
             None => None,
         },
-        Stage::Done => None,
     }
+}
+
+/// The name as a text.
+fn text_of(name: &BoundName) -> &str
+    requires { IsBoundName name.now.bytes.items }
+    ensures { result.now ≡ name.now.bytes.items }
+{
+    match std::str::from_utf8(name.bytes.as_slice()) {
+        Ok(text) => text,
+        Err(_) => unreachable!(),
+    }
+}
+
+/// Binds the name that the line binds, and answers whether it was not bound before. A line that binds none is answered
+/// true.
+fn bind(alloc: Global, names: &mut HashSet<String>, act: &FirstAct) -> Result<bool, AllocError>
+    requires { HasBoundName act.now }
+    ensures { IfOk result (λ fresh. BindsName act.now names.old fresh names.new) }
+{
+    let FirstAct::Malloc { name, .. } = act else {
+        return Ok(true);
+    };
+    let text = String::from_str(alloc, text_of(name))?;
+    let fresh = names.insert(text)?;
+    Ok(fresh)
 }
 
 /// What stands before the next line.
 fn advanced(alloc: Global, stage: Stage, act: &FirstAct) -> Result<Stage, AllocError>
-    ensures { IfOk result (λ next. stage_of next ≡ after_line (stage_of stage) act.now) }
+    ensures { IfOk result (λ next. (names : List (List ℕ)) → stage_of next (names_in (after_line (stage_of stage names) act.now)) ≡ after_line (stage_of stage names) act.now) }
 {
     match stage {
         Stage::Start => match act {
@@ -130,8 +158,7 @@ fn advanced(alloc: Global, stage: Stage, act: &FirstAct) -> Result<Stage, AllocE
             FirstAct::Pool => Ok(Stage::Made(name)),
             _ => Ok(Stage::Named(name)),
         },
-        Stage::Made(_) => Ok(Stage::Done),
-        Stage::Done => Ok(Stage::Done),
+        Stage::Made(name) => Ok(Stage::Made(name)),
     }
 }
 
@@ -139,18 +166,23 @@ fn advanced(alloc: Global, stage: Stage, act: &FirstAct) -> Result<Stage, AllocE
 #[derive(Drop)]
 struct Reading {
     stage: Stage,
+    /// The names that were bound so far.
+    names: HashSet<String>,
     acts: Vec<FirstAct>,
 }
 
 impl Reading {
     /// Reads one more line, if it is one that may stand there.
     fn add(&mut self, alloc: Global, text: &[u8]) -> Result<bool, AllocError>
-        ensures { IfOk result (λ read. AddsLine (stage_of self.old.stage) self.old.acts.items text.now read (stage_of self.new.stage) self.new.acts.items) }
+        ensures { IfOk result (λ read. (before : Before) → Stands self.old.stage self.old.names self.old.acts.items before → AddsLine before self.old.acts.items text.now read self.new.stage self.new.names self.new.acts.items) }
     {
         let words = split_parts(alloc, b' ', text)?;
         let Some(act) = read_line(&self.stage, words.as_slice()) else {
             return Ok(false);
         };
+        if self.acts.len() >= MOST_LINES || !bind(alloc, &mut self.names, &act)? {
+            return Ok(false);
+        }
         let stage = std::mem::replace(&mut self.stage, Stage::Start);
         self.stage = advanced(alloc, stage, &act)?;
         self.acts.push(act)?;
@@ -171,6 +203,7 @@ fn read_lines(alloc: Global, texts: &[Vec<u8>]) -> Result<Lines, AllocError>
 {
     let mut reading = Reading {
         stage: Stage::Start,
+        names: HashSet::new(alloc),
         acts: Vec::new(alloc),
     };
     for (i, text) in texts.iter().enumerate() {
@@ -181,8 +214,9 @@ fn read_lines(alloc: Global, texts: &[Vec<u8>]) -> Result<Lines, AllocError>
     Ok(Lines::All(reading.acts))
 }
 
-/// Reads a first trace whole. It is one line `threads NAME`, then `pool P0 fixed`, then `NAME P0 b = malloc SIZE` with a
-/// size of at most 8128; or the first of these lines alone, or none. Anything else is kind 12, of its first line.
+/// Reads a first trace whole. It is one line `threads NAME`, then `pool P0 fixed`, then lines `NAME P0 b = malloc SIZE`,
+/// each with a name `b` that no earlier line binds and a size of at most 8128; or some of these lines from the first on.
+/// It has 65536 lines at most. Anything else is kind 12, of its first line.
 pub fn read_first(alloc: Global, bytes: &[u8]) -> Result<Vec<FirstAct>, TraceRefused>
     ensures { ReadsFirst bytes.now result }
 {

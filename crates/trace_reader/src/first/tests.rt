@@ -1,4 +1,5 @@
 use super::*;
+use std::io::{self, Write};
 use std::test::Fail;
 
 /// The number of lines that were read, or the line and the kind of what is refused.
@@ -43,6 +44,24 @@ fn reads_each_line_and_each_front(rt: HostRuntime) -> Result<(), Fail> {
     Ok(())
 }
 
+/// The trace of so many mallocs.
+fn mallocs(alloc: Global, count: u32) -> io::Result<Vec<u8>> {
+    let mut text = Vec::from_slice(alloc, b"threads A\npool P0 fixed\n")?;
+    for number in 0..count {
+        writeln!(text, "A P0 x{number} = malloc 8")?;
+    }
+    Ok(text)
+}
+
+#[test]
+fn reads_65536_lines_and_no_more(rt: HostRuntime) -> Result<(), Fail> {
+    let most = mallocs(rt.alloc(), 65534)?;
+    assert_eq!(rt; outcome(rt.alloc(), most.as_slice()), Ok(65536));
+    let more = mallocs(rt.alloc(), 65535)?;
+    assert_eq!(rt; outcome(rt.alloc(), more.as_slice()), Err((65537, 12)));
+    Ok(())
+}
+
 #[test]
 fn refuses_the_first_line_that_is_not_due(rt: HostRuntime) -> Result<(), Fail> {
     let cases: [(&[u8], u32); 22] = [
@@ -74,8 +93,8 @@ fn refuses_the_first_line_that_is_not_due(rt: HostRuntime) -> Result<(), Fail> {
         ),
         (b"threads A\npool P0 fixed\nA P0 x = malloc 8", 3),
         (
-            b"threads A\npool P0 fixed\nA P0 x = malloc 8\nA P0 y = malloc 8\n",
-            4,
+            b"threads A\npool P0 fixed\nA P0 x = malloc 8\nA P0 y = malloc 8\nA P0 x = malloc 8\n",
+            5,
         ),
     ];
     for (bytes, line) in cases {
