@@ -12,7 +12,7 @@ use Rattle.part_model.specs.declared.moves.Part.{Part}
 use Rattle.part_model.specs.Holding.{Holding, same_region, lies_in, after_part, after_parts, AreApart, CanMoveAll}
 use Rattle.part_model.specs.Totals.{has_holder}
 use Rattle.part_model.proofs.Changes.{lies_in_any, after_part-inside, after_part-outside, can_move-after_part}
-use Rattle.part_model.proofs.RunLemmas.{lies_in-parts}
+use Rattle.part_model.proofs.Ranges.{lies_in-parts}
 use Rattle.machine.specs.Ranges.{Each, part_of, region_range}
 use Rattle.machine.specs.Regions.{some_part, front_range, granules_range, back_range}
 use Rattle.machine.proofs.Shapes.{Stays}

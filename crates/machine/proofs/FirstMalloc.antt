@@ -7,7 +7,7 @@ use Rattle.pool_types.specs.declared.values.Answer.TheVariants.{Got}
 use Rattle.part_model.specs.declared.holders.Holder.TheVariants.{Head, Rest, Object, Bin, Hand}
 use Rattle.part_model.specs.declared.moves.Range.{Range}
 use Rattle.part_model.specs.Holding.{lies_in}
-use Rattle.part_model.proofs.RunLemmas.{lies_in-parts, lies_in-is}
+use Rattle.part_model.proofs.Ranges.{lies_in-parts, lies_in-is}
 use Rattle.size_classes.specs.Classes.{class_size, class_objects}
 use Rattle.size_classes.specs.Served.{served_plain_at}
 use Rattle.pool_types.specs.declared.rows.Keeper.TheVariants.{Seat, Hand as InHand}

@@ -9,7 +9,7 @@ use Rattle.part_model.specs.declared.moves.Range.{Range}
 use Rattle.part_model.specs.declared.moves.Part.{Part}
 use Rattle.part_model.specs.Lawful.{is_lawful_pair}
 use Rattle.part_model.specs.Holding.{Holding, lies_in, IsApart, AreApart, IsWhole, AreWhole, CanMoveAll}
-use Rattle.part_model.proofs.RunLemmas.{lies_in-parts, lies_in-is, same_region-parts, same_region-is}
+use Rattle.part_model.proofs.Ranges.{lies_in-parts, lies_in-is, same_region-parts, same_region-is}
 use Rattle.machine.specs.Ranges.{Each, part_of}
 use Rattle.size_classes.specs.Classes.{class_size, class_objects}
 use Rattle.std.proofs.Math.Nat.{div-mul-le_self}

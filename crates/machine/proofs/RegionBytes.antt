@@ -6,7 +6,7 @@ use Rattle.pool_types.specs.declared.policy.RegionRec.{RegionRec}
 use Rattle.part_model.specs.Holding.{Holding, lies_in}
 use Rattle.part_model.specs.Totals.{has_holder, place_at, sum_below, region_bytes}
 use Rattle.part_model.proofs.Sums.{sum_below-same, sum_below-none, sum_below-span}
-use Rattle.part_model.proofs.RunLemmas.{lies_in-parts, lies_in-is, same_region-is, same_region-parts}
+use Rattle.part_model.proofs.Ranges.{lies_in-parts, lies_in-is, same_region-is, same_region-parts}
 use Rattle.part_model.proofs.MoveCounts.{totals_sum_is}
 use Rattle.machine.specs.States.{State}
 use Rattle.machine.specs.Runs.{no_progress, after_events}

@@ -11,7 +11,7 @@ use Rattle.part_model.specs.declared.moves.Part.{Part}
 use Rattle.part_model.specs.Holding.{Holding, lies_in, after_parts, AreApart, CanMoveAll}
 use Rattle.part_model.specs.Totals.{has_holder}
 use Rattle.part_model.proofs.Changes.{holders_of-is}
-use Rattle.part_model.proofs.RunLemmas.{lies_in-parts, same_region-parts}
+use Rattle.part_model.proofs.Ranges.{lies_in-parts, same_region-parts}
 use Rattle.machine.specs.States.{Terms, State, nothing_yet}
 use Rattle.machine.specs.Ranges.{Each}
 use Rattle.machine.specs.Regions.{coming_parts, leaving_parts, front_range, granules_range, back_range, IsNewRegion}

@@ -6,7 +6,7 @@ use Rattle.pool_types.specs.declared.values.Place.{Place}
 use Rattle.pool_types.specs.declared.values.Request.{Request}
 use Rattle.part_model.specs.declared.moves.Range.{Range}
 use Rattle.part_model.specs.Holding.{same_region, lies_in, IsApart}
-use Rattle.part_model.proofs.RunLemmas.{lies_in-parts, lies_in-is, same_region-is, same_region-parts}
+use Rattle.part_model.proofs.Ranges.{lies_in-parts, lies_in-is, same_region-is, same_region-parts}
 use Rattle.size_classes.specs.declared.Served.{Served}
 use Rattle.size_classes.specs.declared.Served.TheVariants.{Small, Large, Bad}
 use Rattle.machine.specs.States.{Terms, State}
