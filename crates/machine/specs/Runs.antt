@@ -230,8 +230,8 @@ MayEnd call part =
     OnTrue (is_object part.from)
     ((place_to_free call.request ≡ Some part.range.place) ⊎ (list_any (λ earlier. same_object earlier.to part.from) (moved_parts call.moments) ≡ true))
 
--- What a step of a call may move, be the call answered or not: it grants an object only where its request wants one, and ends none but the one that
--- its request frees and those that it granted. A fixed pool, and one that keeps its memory, lets no region go in a call.
+-- What a step of a call may move, be the call answered or not: the call grants an object only where its request wants one, and ends none
+-- but the one that its request frees and those that it granted. A fixed pool, and one that keeps its memory, lets no region go in a call.
 pub record IsMoveOf (terms : Terms) (call : Call) (parts : List Part) : Type 0 where
   pub grants : OnTrue (not (wants_object call.request)) (granted parts ≡ [])
   pub ends : Each (MayEnd call) parts
