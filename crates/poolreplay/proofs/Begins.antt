@@ -11,7 +11,7 @@ use Rattle.pool_types.specs.declared.values.Region.{Region}
 use Rattle.pool_types.specs.declared.policy.RegionRec.{RegionRec}
 use Rattle.part_model.specs.declared.holders.Holder.TheVariants.{Head, Rest, Bin, Hand}
 use Rattle.part_model.specs.Holding.{Holding, lies_in, IsApart, after_part, CanMoveAll}
-use Rattle.part_model.proofs.RunLemmas.{lies_in-parts}
+use Rattle.part_model.proofs.Ranges.{lies_in-parts}
 use Rattle.size_classes.specs.Classes.{class_size, class_objects}
 use Rattle.size_classes.proofs.Sizes.{class_objects-fit}
 use Rattle.machine.specs.States.{State, Slab}
@@ -103,13 +103,18 @@ first_can_come state none next =
         least = λ other least below. absurd (omega arith);
       };
       below = lit< tt;
+      only = λ fixed. next;
       front = lit< tt;
       aligned = refl;
       inside = lit≤ tt;
       ends = lit≤ tt;
-      even = λ some. refl;
+      most = inl refl;
+      right = λ some. refl;
       within = lit< tt;
       apart = λ other member. absurd (empty other member);
+      some = lit< tt;
+      lowest = λ room. omega arith;
+      longest = λ fewer indices longest. absurd (let none : 128 < 128 = fewer in omega arith);
     }
 
 -- the states when the region has come, and when its rest is in a bin

@@ -34,7 +34,7 @@ use Rattle.poolreplay.proofs.Holds.{Holds, object_start, regions_of, next_of}
 use Rattle.poolreplay.proofs.Spans.{span}
 use Rattle.poolreplay.proofs.Grants.{state_granted, lists_granted, grant_holds, grant_lawful}
 use Rattle.poolreplay.proofs.Begins.{IsMade, came, take_ready, region_ready, fresh, lists_begun, begin_holds}
-use Rattle.poolreplay.proofs.Legal.{never, none_kept, full_no_bin, none_free, object_suits}
+use Rattle.poolreplay.proofs.Legal.{never, none_kept, full_no_bin, none_free, none_waits, none_in_hand, object_suits}
 
 -- between two calls
 abbrev pub idle : State → Progress
@@ -152,8 +152,10 @@ run_begun state lists size class i asked below same free =
                       refl,
                     );
                     no_hand = never (state_granted state lists i) (lists_granted lists i) after (Some (Hand 0)) refl;
+                    no_slab = none_in_hand (state_granted state lists i) (lists_granted lists i) after;
                   },
                 );
+                moves = record { grants = tt; ends = (tt, tt); keeps = refl };
               },
               rest,
             ),
@@ -187,7 +189,7 @@ run_refused state lists size class asked none full =
                   all = λ byte bin. absurd (full_no_bin state lists asked.holds full byte bin);
                   joined = λ apart one other member. absurd (omega (arith, member.1));
                 },
-                (Small class, served_plain_at-small size class asked.found, none_free state lists class asked.holds none),
+                (Small class, served_plain_at-small size class asked.found, (none_free state lists class asked.holds none, λ alone. none_waits state lists class asked.holds)),
               ),
               record {
                 answers = (
@@ -200,17 +202,20 @@ run_refused state lists size class asked none full =
                     vain = record {
                       later = moment state look_step ∷ [];
                       steps = refl;
+                      still = refl;
                       is = served_plain_at-small size class asked.found;
                       vain = (refl, lit≤ tt, (λ block member fits. omega (arith, member.1)), (0, (refl, refl), refl));
                     };
-                    found = (refl, omega (arith, live.1), refl, refl, refl);
+                    found = (refl, (omega (arith, live.1), tt), refl, refl, refl);
                     drained = λ alone. none_kept state lists asked.holds;
                   },
                   (refl, refl),
                 );
                 no_hand = never state lists asked.holds (Some (Hand 0)) refl;
+                no_slab = none_in_hand state lists asked.holds;
               },
             );
+            moves = record { grants = tt; ends = tt; keeps = refl };
           },
           rest,
         ),
@@ -276,9 +281,9 @@ run_taken state lists size class asked some few =
       run = λ events rest. (
         may_begin state,
         (
-          record { whole = one_whole (take_part (length lists.slabs)) whole_slab; apart = (tt, tt); there = taken.0.1; lawful = taken.0.0; fits = (tt, tt, tt) },
+          record { whole = one_whole (take_part (length lists.slabs)) whole_slab; apart = (tt, tt); there = taken.0.1; lawful = taken.0.0; fits = (tt, tt, tt); moves = record { grants = tt; ends = (tt, tt); keeps = refl } },
           (
-            record { whole = two_whole (head_part (length lists.slabs) class) (rest_part (length lists.slabs) class) (head_whole (length lists.slabs) class few) (objects_whole (length lists.slabs) class few exists); apart = two_apart (head_part (length lists.slabs) class) (rest_part (length lists.slabs) class) (omega arith); there = made.0.1; lawful = made.0.0; fits = (tt, tt, tt) },
+            record { whole = two_whole (head_part (length lists.slabs) class) (rest_part (length lists.slabs) class) (head_whole (length lists.slabs) class few) (objects_whole (length lists.slabs) class few exists); apart = two_apart (head_part (length lists.slabs) class) (rest_part (length lists.slabs) class) (omega arith); there = made.0.1; lawful = made.0.0; fits = (tt, tt, tt); moves = record { grants = tt; ends = (tt, (tt, tt)); keeps = refl } },
             (
               record {
                 whole = one_whole (grant_part (length lists.slabs) class 0 (lists.granted + 1)) (object_whole (length lists.slabs) class 0 few exists (omega arith));
@@ -302,8 +307,10 @@ run_taken state lists size class asked some few =
                       refl,
                     );
                     no_hand = never _ (lists_fresh lists class) gave.1 (Some (Hand 0)) refl;
+                    no_slab = none_in_hand _ (lists_fresh lists class) gave.1;
                   },
                 );
+                moves = record { grants = tt; ends = (tt, tt); keeps = refl };
               },
               rest,
             ),
@@ -332,11 +339,11 @@ run_come state lists size class asked unasked few =
       run = λ events rest. (
         may_begin state,
         (
-          record { whole = one_whole come_part (record { some = lit< tt; ends = lit≤ tt }); apart = (tt, tt); there = comes.0.1; lawful = comes.0.0; fits = (tt, tt, tt) },
+          record { whole = one_whole come_part (record { some = lit< tt; ends = lit≤ tt }); apart = (tt, tt); there = comes.0.1; lawful = comes.0.0; fits = (tt, tt, tt); moves = record { grants = tt; ends = (tt, tt); keeps = refl } },
           (
-            record { whole = one_whole put_part (record { some = lit< tt; ends = lit≤ tt }); apart = (tt, tt); there = comes.1.1; lawful = comes.1.0; fits = (tt, tt, tt) },
+            record { whole = one_whole put_part (record { some = lit< tt; ends = lit≤ tt }); apart = (tt, tt); there = comes.1.1; lawful = comes.1.0; fits = (tt, tt, tt); moves = record { grants = tt; ends = (tt, tt); keeps = refl } },
             (
-              record { whole = two_whole (head_part (length lists.slabs) class) (rest_part (length lists.slabs) class) (head_whole (length lists.slabs) class few) (objects_whole (length lists.slabs) class few exists); apart = two_apart (head_part (length lists.slabs) class) (rest_part (length lists.slabs) class) (omega arith); there = made.0.1; lawful = made.0.0; fits = (tt, tt, tt) },
+              record { whole = two_whole (head_part (length lists.slabs) class) (rest_part (length lists.slabs) class) (head_whole (length lists.slabs) class few) (objects_whole (length lists.slabs) class few exists); apart = two_apart (head_part (length lists.slabs) class) (rest_part (length lists.slabs) class) (omega arith); there = made.0.1; lawful = made.0.0; fits = (tt, tt, tt); moves = record { grants = tt; ends = (tt, (tt, tt)); keeps = refl } },
               (
                 record {
                   whole = one_whole (grant_part (length lists.slabs) class 0 (lists.granted + 1)) (object_whole (length lists.slabs) class 0 few exists (omega arith));
@@ -361,8 +368,10 @@ run_come state lists size class asked unasked few =
                         refl,
                       );
                       no_hand = never _ (lists_fresh lists class) gave.1 (Some (Hand 0)) refl;
+                      no_slab = none_in_hand _ (lists_fresh lists class) gave.1;
                     },
                   );
+                  moves = record { grants = tt; ends = (tt, tt); keeps = refl };
                 },
                 rest,
               ),

@@ -9,7 +9,7 @@ use Rattle.pool_types.specs.declared.values.Grant.{Grant}
 use Rattle.pool_types.specs.declared.values.Leak.{Leak}
 use Rattle.part_model.specs.declared.holders.Holder.TheVariants.{Head, Rest, Object, Bin}
 use Rattle.part_model.specs.Holding.{Holding, lies_in}
-use Rattle.part_model.proofs.RunLemmas.{lies_in-parts, place_is}
+use Rattle.part_model.proofs.Ranges.{lies_in-parts, place_is}
 use Rattle.size_classes.specs.Classes.{class_size, class_objects}
 use Rattle.slab_core.specs.Layout.{object_offset}
 use Rattle.machine.specs.States.{State}

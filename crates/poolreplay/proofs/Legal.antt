@@ -10,9 +10,10 @@ use Rattle.std.specs.declared.option.Option.{Option}
 use Rattle.pool_types.specs.declared.values.Place.{Place}
 use Rattle.pool_types.specs.declared.values.Request.TheVariants.{Malloc}
 use Rattle.pool_types.specs.declared.policy.RegionRec.{RegionRec}
-use Rattle.pool_types.specs.declared.rows.Keeper.TheVariants.{Seat}
+use Rattle.pool_types.specs.declared.rows.Keeper.{Keeper}
+use Rattle.pool_types.specs.declared.rows.Keeper.TheVariants.{Seat, Orphan, Hand as InHand}
 use Rattle.part_model.specs.declared.holders.Holder.{Holder}
-use Rattle.part_model.specs.declared.holders.Holder.TheVariants.{Head, Rest, Private, Object, SlabCache, Cached, Bin, Queue}
+use Rattle.part_model.specs.declared.holders.Holder.TheVariants.{Head, Rest, Private, Public, Object, SlabCache, Cached, Bin, Queue}
 use Rattle.part_model.specs.Holding.{Holding, lies_in}
 use Rattle.size_classes.specs.Classes.{class_size, class_objects, first_class}
 use Rattle.size_classes.proofs.Sizes.{class_objects-fit, class_size-least}
@@ -21,9 +22,9 @@ use Rattle.slab_core.proofs.Places.{object_offset-eights, object_offset-sixteens
 use Rattle.slab_core.specs.Layout.{object_offset}
 use Rattle.machine.specs.States.{State, Slab}
 use Rattle.machine.specs.Ranges.{head_bytes, slab_range}
-use Rattle.machine.specs.Lawful.{IsKeptOf}
+use Rattle.machine.specs.Lawful.{IsKept, IsKeptOf}
 use Rattle.machine.specs.Suits.{Suits}
-use Rattle.machine.specs.Looks.{NoneFree}
+use Rattle.machine.specs.Looks.{NoneFree, NoneWaits}
 use Rattle.machine.specs.Answers.{NoneIsKept}
 use Rattle.machine.proofs.Mallocs.{plain_aligned, enough_usable}
 use Rattle.poolreplay.specs.Lists.{SlabGrants, Lists, no_slab, has_free, grant_of, place_at}
@@ -130,6 +131,23 @@ book_member n (first ∷ slabs) slab (suc k, below, is) =
     let later = book_member (n + 1) slabs slab (k, omega (arith, below), is) in
     (suc later.0, omega (arith, later.1), later.2 ∙ ap (λ m. slab_of m (get_or slabs later.0 no_slab).class) (let same : n + 1 + later.0 ≡ n + suc later.0 = omega arith in same))
 
+-- each slab of the book is kept by the one seat
+pub kept_by_seat : (state : State) (lists : Lists) → Holds state lists → (keeper : Keeper) (slab : Slab) → IsKept state keeper slab → keeper ≡ Seat 0
+kept_by_seat state lists holds keeper slab kept =
+    let found = book_member 0 lists.slabs slab (subst (λ (b : List Slab). Contains b slab) holds.book_is kept.0) in
+    sym kept.1 ∙ ap (λ (s : Slab). s.keeper) found.2
+
+-- so none is in hand, and none is an orphan
+pub none_in_hand : (state : State) (lists : Lists) → Holds state lists → (slab : Slab) → IsKept state (InHand 0) slab → ⊥
+none_in_hand state lists holds slab kept = let clash : InHand 0 ≡ Seat 0 = kept_by_seat state lists holds (InHand 0) slab kept in cc
+
+-- nothing waits to be taken back or adopted
+pub none_waits : (state : State) (lists : Lists) (class : ℕ) → Holds state lists → NoneWaits state 0 class
+none_waits state lists class holds = record {
+  public = λ byte own. never state lists holds (Some Public) refl byte;
+  orphan = λ slab kept. let clash : Orphan ≡ Seat 0 = kept_by_seat state lists holds Orphan slab kept.0 in cc;
+}
+
 -- where none was found, none passes
 pub none_found : (p : SlabGrants → Bool) (slabs : List SlabGrants) → position p slabs ≡ None → (j : ℕ) → j < length slabs → p (get_or slabs j no_slab) ≡ false
 none_found p slabs none j below =
@@ -143,8 +161,8 @@ none_found p slabs none j below =
 -- no slab of the class has an object to give
 pub none_free : (state : State) (lists : Lists) (class : ℕ) → Holds state lists → position (has_free class) lists.slabs ≡ None → NoneFree state 0 class
 none_free state lists class holds none = record {
-  rest = λ slab kept byte inside. no_rest slab kept byte inside;
-  private = λ slab kept byte inside. never state lists holds (Some Private) refl byte;
+  rest = λ byte own. no_rest own.0 own.1 byte own.2;
+  private = λ byte own. never state lists holds (Some Private) refl byte;
   stored = never state lists holds (Some (SlabCache 0)) refl;
 }
   where

@@ -1,6 +1,6 @@
 -- A trace that was read asks for sizes that have a class.
 use Prim.Native.Nat.{zero, suc}
-use Rattle.std.proofs.Common.{◌≡◌, ℕ, ◌+◌, ◌≤◌, List, [], ◌∷◌, length, Some, None, sym, ◌∙◌, ap, subst, lit<, lit≤, arith}
+use Rattle.std.proofs.Common.{refl, ◌≡◌, ℕ, ◌+◌, ◌≤◌, List, [], ◌∷◌, length, Some, None, sym, ◌∙◌, ap, subst, lit<, lit≤, arith}
 use Rattle.std.specs.Prelude.{All, Contains}
 use Rattle.std.specs.declared.option.Option.{Option}
 use Rattle.trace_reader.specs.declared.first.FirstAct.{FirstAct}
@@ -108,7 +108,7 @@ replayed bytes text acts spelled report =
       acts = acts;
       spelled = spelled;
       events = events_to no_lists (sizes_of acts);
-      run = journal.run;
+      run = (record { valid = refl; supported = refl; limits_in = ((refl, refl, refl), refl) }, journal.run);
       asked = requests_in-events no_lists (sizes_of acts);
       region = subst (λ (progress : Progress). end progress.state) (sym journal.after) given;
       leaks = leaks_at (lists_after no_lists (sizes_of acts));

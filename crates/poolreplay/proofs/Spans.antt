@@ -8,7 +8,7 @@ use Rattle.part_model.specs.declared.holders.Holder.{Holder}
 use Rattle.part_model.specs.declared.moves.Range.{Range}
 use Rattle.part_model.specs.Holding.{Holding, lies_in, after_part, CanMove}
 use Rattle.part_model.specs.Lawful.{is_lawful_pair}
-use Rattle.part_model.proofs.RunLemmas.{lies_in-parts, lies_in-is, place_is}
+use Rattle.part_model.proofs.Ranges.{lies_in-parts, lies_in-is, place_is}
 use Rattle.machine.specs.Ranges.{part_of, range_at}
 use Rattle.poolreplay.specs.Journal.{at_offset}
 
