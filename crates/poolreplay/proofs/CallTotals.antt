@@ -1,5 +1,5 @@
 -- The totals follow each step of a call.
-use Rattle.std.proofs.Common.{◌≡◌, ℕ, ◌+◌, ◌-◌, ◌*◌, ◌^◌, ◌<◌, ◌≤◌, Bool, true, false, List, [], ◌∷◌, ◌++◌, length, set, Some, None, refl, sym, ◌∙◌, ap, arith, subst, lit<, lit≤, nat_lt}
+use Rattle.std.proofs.Common.{◌≡◌, ℕ, ◌+◌, ◌*◌, ◌^◌, ◌<◌, Bool, true, false, List, [], ◌∷◌, ◌++◌, length, set, Some, None, refl, sym, ◌∙◌, ap, arith, subst, lit<, nat_lt}
 use Rattle.std.specs.Prelude.{if◌then◌else◌, All, is_some, IfSome, unwrap_or}
 use Rattle.std.specs.declared.option.Option.{Option}
 use Rattle.pool_types.specs.declared.values.Place.{Place}
@@ -7,10 +7,10 @@ use Rattle.part_model.specs.declared.holders.Holder.{Holder}
 use Rattle.part_model.specs.declared.moves.Part.{Part}
 use Rattle.part_model.specs.declared.totals.Totals.{Totals}
 use Rattle.part_model.specs.declared.holders.Holder.TheVariants.{Head, Rest, Object, Bin, Hand}
-use Rattle.part_model.specs.Holding.{Holding, IsWhole, AreWhole, AreApart, after_part, after_parts, CanMoveAll}
+use Rattle.part_model.specs.Holding.{Holding, AreWhole, AreApart, after_part, CanMoveAll}
 use Rattle.part_model.specs.declared.holders.Kind.TheVariants.{Waste as OfWaste, Head as OfHead, Rest as OfRest, Private as OfPrivate, Public as OfPublic, Object as OfObject, LargeHead as OfLargeHead, SlabCache as OfSlabCache, Cached as OfCached, Bin as OfBin, Queue as OfQueue, Hand as OfHand}
-use Rattle.part_model.specs.Totals.{is_at, has_holder, is_live, place_at, sum_regions, region_bytes, regions_held, totals_of, is_region}
-use Rattle.part_model.specs.Laws.{IsPlaced, IsWithin, bytes_from, bytes_to}
+use Rattle.part_model.specs.Totals.{is_at, has_holder, is_live, place_at, region_bytes, regions_held, totals_of, is_region}
+use Rattle.part_model.specs.Laws.{IsPlaced, IsWithin}
 use Rattle.part_model.proofs.Sums.{sum_below-none, sum_regions-none}
 use Rattle.part_model.proofs.MoveCounts.{bytes-parts, live_follow_is}
 use Rattle.pool_types.specs.declared.values.Region.{Region}
@@ -21,7 +21,6 @@ use Rattle.poolreplay.specs.Lists.{SlabGrants, slab_at, given, grant_of, first_r
 use Rattle.poolreplay.proofs.Holds.{object_start}
 use Rattle.machine.proofs.Moving.{each-all}
 use Rattle.poolreplay.specs.Held.{no_bytes, totals_in}
-use Rattle.poolreplay.specs.Journal.{at_offset}
 use Rattle.poolreplay.proofs.Spans.{span}
 use Rattle.poolreplay.proofs.HeldTotals.{count, bytes_if, totals_same, totals_given, totals_taken, totals_come}
 
@@ -154,9 +153,11 @@ taken_totals held region slabs class number some few there is whole can apart wh
     let P : Option Region → Type 0 = λ r. totals_of (after_grant (after_part held (take_part (length slabs))) (length slabs) class number) ≡ totals_in (Some (unwrap_or r first_region)) (slabs ++ record { class = class; numbers = number ∷ [] } ∷ []) in
     subst P (sym same)
     (totals_taken held (after_grant (after_part held (take_part (length slabs))) (length slabs) class number) slabs class number some (class_objects-fit class) few
-    (λ test. omega (arith,
-        begun_counts (after_part held (take_part (length slabs))) (length slabs) class number apart whole_two can_two whole_one can_one test,
-        one_counts held (16384 * length slabs) 16384 (Some Bin) (Some (Hand 0)) whole can test))
+    (λ test. omega (
+      arith,
+      begun_counts (after_part held (take_part (length slabs))) (length slabs) class number apart whole_two can_two whole_one can_one test,
+      one_counts held (16384 * length slabs) 16384 (Some Bin) (Some (Hand 0)) whole can test,
+    ))
     (begun_regions (after_part held (take_part (length slabs))) (length slabs) class number apart whole_two can_two whole_one can_one
     ∙ one_regions held (16384 * length slabs) 16384 (Some Bin) (Some (Hand 0)) refl refl whole can)
     (before ∙ ap (λ (r : Option Region). totals_in r slabs) same))
@@ -183,10 +184,12 @@ come_totals held None slabs class number some none there nowhere whole_come can_
     let P : List SlabGrants → Type 0 = λ ss. totals_of (after_grant (after_come held) (length slabs) class number) ≡ totals_in (Some first_region) (ss ++ record { class = class; numbers = number ∷ [] } ∷ []) in
     subst P (sym (none_is slabs none))
     (totals_come held (after_grant (after_come held) (length slabs) class number) class number some (class_objects-fit class)
-    (λ test. omega (arith,
-        begun_counts (after_come held) (length slabs) class number apart whole_two can_two whole_one can_one test,
-        one_counts (after_part held come_part) 16384 1032192 (Some (Hand 0)) (Some Bin) whole_put can_put test,
-        one_counts held 0 1048576 None (Some (Hand 0)) whole_come can_come test))
+    (λ test. omega (
+      arith,
+      begun_counts (after_come held) (length slabs) class number apart whole_two can_two whole_one can_one test,
+      one_counts (after_part held come_part) 16384 1032192 (Some (Hand 0)) (Some Bin) whole_put can_put test,
+      one_counts held 0 1048576 None (Some (Hand 0)) whole_come can_come test,
+    ))
     (begun_regions (after_come held) (length slabs) class number apart whole_two can_two whole_one can_one
     ∙ one_regions (after_part held come_part) 16384 1032192 (Some (Hand 0)) (Some Bin) refl refl whole_put can_put
     ∙ region_counted held nowhere whole_come can_come (ap (λ (t : Totals). t.regions) empty))

@@ -10,8 +10,7 @@ use Rattle.std.proofs.Math.Nat.{mul-le-mul_right}
 use Rattle.std.specs.declared.option.Option.{Option}
 use Rattle.pool_types.specs.declared.values.Region.{Region}
 use Rattle.pool_types.specs.declared.values.Request.TheVariants.{Malloc}
-use Rattle.part_model.specs.declared.holders.Holder.TheVariants.{Head, Rest, Object, Bin, Hand}
-use Rattle.part_model.specs.declared.moves.Part.{Part}
+use Rattle.part_model.specs.declared.holders.Holder.TheVariants.{Rest, Hand}
 use Rattle.part_model.specs.Holding.{IsWhole}
 use Rattle.size_classes.specs.declared.Served.TheVariants.{Small}
 use Rattle.size_classes.specs.Classes.{class_size, class_objects, first_class}
@@ -20,14 +19,14 @@ use Rattle.size_classes.proofs.Positions.{first_class-found, first_class-some}
 use Rattle.size_classes.proofs.Serving.{served_plain_at-small}
 use Rattle.slab_core.specs.Layout.{object_offset}
 use Rattle.machine.specs.States.{State}
-use Rattle.machine.specs.Ranges.{head_bytes, part_of}
+use Rattle.machine.specs.Ranges.{head_bytes}
 use Rattle.machine.specs.Journal.{Entry, after_entry}
 use Rattle.machine.specs.Lawful.{nothing_moves}
 use Rattle.machine.specs.Answers.{Call, Moment, IsAccepted}
 use Rattle.machine.specs.Runs.{Event, Begins, Makes, Progress, Serving, MayBegin, IsRunFrom, after_events}
 use Rattle.machine.proofs.Mallocs.{malloc_accepted}
 use Rattle.machine.proofs.Moving.{one_whole, two_whole, two_apart, none_whole, none_apart}
-use Rattle.poolreplay.specs.Lists.{SlabGrants, Lists, no_slab, slab_at, given, grant_of, first_region, has_free, whole, whole_at, from_begun, from_fresh, refused, class_at}
+use Rattle.poolreplay.specs.Lists.{SlabGrants, Lists, no_slab, slab_at, given, first_region, has_free, whole, whole_at, from_begun, from_fresh, refused, class_at}
 use Rattle.poolreplay.specs.Journal.{fixed_terms, one_region, grant_step, come_step, put_step, take_step, begin_step, look_step, fresh_steps, steps_at, steps_of}
 use Rattle.poolreplay.proofs.SlabLemmas.{some_bytes}
 use Rattle.poolreplay.proofs.Holds.{Holds, object_start, regions_of, next_of}

@@ -1,10 +1,8 @@
 -- The totals of the lists are those of the partition: they follow each call.
-use Prim.Native.Nat.{zero, suc}
-use Rattle.std.proofs.Common.{◌≡◌, ℕ, ◌+◌, ◌-◌, ◌*◌, ◌^◌, ◌<◌, ◌≤◌, Bool, true, false, List, [], ◌∷◌, ◌++◌, length, get_or, set, Some, None, refl, sym, ◌∙◌, ap, arith, subst, lit<, lit≤, length-append, length-set, nat_lt}
-use Rattle.std.specs.Prelude.{if◌then◌else◌, sum_by, All}
+use Rattle.std.proofs.Common.{◌≡◌, ℕ, ◌+◌, ◌-◌, ◌*◌, ◌<◌, ◌≤◌, Bool, List, [], ◌∷◌, ◌++◌, length, get_or, set, Some, None, sym, ◌∙◌, ap, arith, length-append, length-set}
+use Rattle.std.specs.Prelude.{if◌then◌else◌, sum_by}
 use Rattle.std.proofs.lemmas.List.Sums.{sum_by-set, sum_by-cons, sum_by-append}
 use Rattle.std.specs.declared.option.Option.{Option}
-use Rattle.pool_types.specs.declared.values.Place.{Place}
 use Rattle.pool_types.specs.declared.values.Region.{Region}
 use Rattle.part_model.specs.declared.holders.Holder.{Holder}
 use Rattle.part_model.specs.declared.holders.Holder.TheVariants.{Head, Rest, Object, Bin, Hand}
@@ -77,7 +75,7 @@ totals_given held next region slabs i number below free follows same before =
     let more : length ((slab_at slabs i).numbers ++ number ∷ []) ≡ length (slab_at slabs i).numbers + 1 = length-append (slab_at slabs i).numbers (number ∷ []) in
     let heads = sum_given slab_head slabs i (given (slab_at slabs i) number) below in
     let less : (class_objects (slab_at slabs i).class - length (slab_at slabs i).numbers) * class_size (slab_at slabs i).class
-            ≡ (class_objects (slab_at slabs i).class - length ((slab_at slabs i).numbers ++ number ∷ [])) * class_size (slab_at slabs i).class + class_size (slab_at slabs i).class =
+    ≡ (class_objects (slab_at slabs i).class - length ((slab_at slabs i).numbers ++ number ∷ [])) * class_size (slab_at slabs i).class + class_size (slab_at slabs i).class =
     rest_less (class_objects (slab_at slabs i).class) (length (slab_at slabs i).numbers) (class_size (slab_at slabs i).class) free ∙ ap (λ n. (class_objects (slab_at slabs i).class - n) * class_size (slab_at slabs i).class + class_size (slab_at slabs i).class) (sym more) in
     let rests : sum_by slab_rest (set slabs i (given (slab_at slabs i) number)) + class_size (slab_at slabs i).class ≡ sum_by slab_rest slabs = omega (arith, sum_given slab_rest slabs i (given (slab_at slabs i) number) below, less) in
     let held_more : length ((slab_at slabs i).numbers ++ number ∷ []) * class_size (slab_at slabs i).class ≡ length (slab_at slabs i).numbers * class_size (slab_at slabs i).class + class_size (slab_at slabs i).class =
@@ -130,7 +128,7 @@ totals_taken held next slabs class number some fit few follows same before =
     (omega (arith, follows (is_at OfHand), ap (λ (t : Totals). t.hand) before, parts))
 
 -- a slab was begun in a region that came, and gave its first object
-pub totals_come : (held next : Holding) (class number : ℕ) → 0 < class_objects class → class_objects class * class_size class ≤ 16256 → 
+pub totals_come : (held next : Holding) (class number : ℕ) → 0 < class_objects class → class_objects class * class_size class ≤ 16256 →
     ((test : Option Holder → Bool) → count test next + (bytes_if test None 1048576 + (bytes_if test (Some (Hand 0)) 1032192 + (bytes_if test (Some (Hand 0)) (16384 - class_objects class * class_size class) + (bytes_if test (Some (Hand 0)) (class_objects class * class_size class) + bytes_if test (Some Rest) (class_size class))))) ≡ count test held + (bytes_if test (Some (Hand 0)) 1048576 + (bytes_if test (Some Bin) 1032192 + (bytes_if test (Some Head) (16384 - class_objects class * class_size class) + (bytes_if test (Some Rest) (class_objects class * class_size class) + bytes_if test (Some (Object (grant_of number))) (class_size class)))))) →
     regions_held next ≡ 1 → totals_of held ≡ no_bytes → totals_of next ≡ totals_in (Some first_region) (none_begun ++ record { class = class; numbers = number ∷ [] } ∷ [])
 unfolding head_bytes
@@ -157,4 +155,3 @@ totals_come held next class number some fit follows same before =
     (omega (arith, follows (is_at OfBin), ap (λ (t : Totals). t.bin) before, parts))
     (omega (arith, follows (is_at OfQueue), ap (λ (t : Totals). t.queue) before, parts))
     (omega (arith, follows (is_at OfHand), ap (λ (t : Totals). t.hand) before, parts))
-
