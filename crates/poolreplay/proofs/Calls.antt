@@ -10,8 +10,7 @@ use Rattle.std.proofs.Math.Nat.{mul-le-mul_right}
 use Rattle.std.specs.declared.option.Option.{Option}
 use Rattle.pool_types.specs.declared.values.Region.{Region}
 use Rattle.pool_types.specs.declared.values.Request.TheVariants.{Malloc}
-use Rattle.part_model.specs.declared.holders.Holder.TheVariants.{Head, Rest, Object, Bin, Hand}
-use Rattle.part_model.specs.declared.moves.Part.{Part}
+use Rattle.part_model.specs.declared.holders.Holder.TheVariants.{Rest, Hand}
 use Rattle.part_model.specs.Holding.{IsWhole}
 use Rattle.size_classes.specs.declared.Served.TheVariants.{Small}
 use Rattle.size_classes.specs.Classes.{class_size, class_objects, first_class}
@@ -20,18 +19,21 @@ use Rattle.size_classes.proofs.Positions.{first_class-found, first_class-some}
 use Rattle.size_classes.proofs.Serving.{served_plain_at-small}
 use Rattle.slab_core.specs.Layout.{object_offset}
 use Rattle.machine.specs.States.{State}
-use Rattle.machine.specs.Ranges.{head_bytes, part_of}
+use Rattle.machine.specs.Ranges.{head_bytes}
 use Rattle.machine.specs.Journal.{Entry, after_entry}
 use Rattle.machine.specs.Lawful.{nothing_moves}
 use Rattle.machine.specs.Answers.{Call, Moment, IsAccepted}
 use Rattle.machine.specs.Runs.{Event, Begins, Makes, Progress, Serving, MayBegin, IsRunFrom, after_events}
 use Rattle.machine.proofs.Mallocs.{malloc_accepted}
 use Rattle.machine.proofs.Moving.{one_whole, two_whole, two_apart, none_whole, none_apart}
-use Rattle.poolreplay.specs.Lists.{SlabGrants, Lists, no_slab, slab_at, given, grant_of, first_region, has_free, whole, whole_at, from_begun, from_fresh, refused, class_at}
+use Rattle.poolreplay.specs.Lists.{SlabGrants, Lists, no_slab, slab_at, given, first_region, has_free, whole, whole_at, from_begun, from_fresh, refused, class_at}
 use Rattle.poolreplay.specs.Journal.{fixed_terms, one_region, grant_step, come_step, put_step, take_step, begin_step, look_step, fresh_steps, steps_at, steps_of}
 use Rattle.poolreplay.proofs.SlabLemmas.{some_bytes}
 use Rattle.poolreplay.proofs.Holds.{Holds, object_start, regions_of, next_of}
 use Rattle.poolreplay.proofs.Spans.{span}
+use Rattle.part_model.specs.Totals.{totals_of}
+use Rattle.poolreplay.specs.Held.{totals_at}
+use Rattle.poolreplay.proofs.CallTotals.{grant_part, take_part, come_part, put_part, head_part, rest_part, begun_totals, taken_totals, come_totals}
 use Rattle.poolreplay.proofs.Grants.{state_granted, lists_granted, grant_holds, grant_lawful}
 use Rattle.poolreplay.proofs.Begins.{IsMade, came, take_ready, region_ready, fresh, lists_begun, begin_holds}
 use Rattle.poolreplay.proofs.Legal.{never, none_kept, full_no_bin, none_free, none_waits, none_in_hand, object_suits}
@@ -68,30 +70,12 @@ accepted state lists size class moments asked =
 abbrev pub moment : State → Entry → Moment
 moment state entry = record { state = state; entry = entry }
 
--- the parts of the steps
-abbrev pub grant_part : ℕ → ℕ → ℕ → ℕ → Part
-grant_part i class object number = part_of (span (object_start i class object) (class_size class)) (Some Rest) (Some (Object (grant_of number)))
-
-abbrev pub take_part : ℕ → Part
-take_part n = part_of (span (16384 * n) 16384) (Some Bin) (Some (Hand 0))
-
-abbrev pub come_part : Part
-come_part = part_of (span 0 1048576) None (Some (Hand 0))
-
-abbrev pub put_part : Part
-put_part = part_of (span 16384 1032192) (Some (Hand 0)) (Some Bin)
-
-abbrev pub head_part : ℕ → ℕ → Part
-head_part n class = part_of (span (16384 * n) (head_bytes class)) (Some (Hand 0)) (Some Head)
-
-abbrev pub rest_part : ℕ → ℕ → Part
-rest_part n class = part_of (span (16384 * n + head_bytes class) (class_objects class * class_size class)) (Some (Hand 0)) (Some Rest)
-
--- a malloc with these steps is a run, and the lists hold after it
-pub record CallRuns (state : State) (size : ℕ) (steps : List Entry) (lists : Lists) : Type 0 where
+-- a malloc with these steps is a run, and the lists hold after it, with their totals
+pub record CallRuns (state : State) (size : ℕ) (steps : List Entry) (before lists : Lists) : Type 0 where
   pub next : State
   pub run : (events : List Event) → IsRunFrom fixed_terms (idle next) events → IsRunFrom fixed_terms (idle state) (Begins 0 (Malloc size) ∷ (map Makes steps ++ events))
   pub holds : Holds next lists
+  pub totals : totals_of state.held ≡ totals_at before → totals_of next.held ≡ totals_at lists
   pub after : (events : List Event) → after_events (idle state) (Begins 0 (Malloc size) ∷ (map Makes steps ++ events)) ≡ after_events (idle next) events
 
 -- the range of an object is whole
@@ -103,9 +87,9 @@ object_whole i class object few exists free =
     record { some = omega arith; ends = omega arith }
 
 -- the region is there once a slab is
-region_live : (state : State) (lists : Lists) → Holds state lists → 0 < length lists.slabs → (state.regions ≡ one_region ∷ []) × (state.next ≡ 1)
+region_live : (state : State) (lists : Lists) → Holds state lists → 0 < length lists.slabs → (state.regions ≡ one_region ∷ []) × (state.next ≡ 1) × (is_some lists.region ≡ true)
 region_live state lists holds some = elim (cases_Bool (is_some lists.region)) [
-  | inl there ↦ (holds.regions_are ∙ (regions_some lists.region there).0, holds.next_is ∙ (regions_some lists.region there).1)
+  | inl there ↦ (holds.regions_are ∙ (regions_some lists.region there).0, holds.next_is ∙ (regions_some lists.region there).1, there)
   | inr none ↦ absurd (omega (arith, holds.unasked none))
 ]
   where
@@ -115,13 +99,13 @@ region_live state lists holds some = elim (cases_Bool (is_some lists.region)) [
 
 -- an object of a slab that was begun
 run_begun : (state : State) (lists : Lists) (size class i : ℕ) → IsAsked state lists size class → i < length lists.slabs → (slab_at lists.slabs i).class ≡ class → length (slab_at lists.slabs i).numbers < class_objects class →
-    CallRuns state size (grant_step i class (length (slab_at lists.slabs i).numbers) (lists.granted + 1) ∷ []) (from_begun lists class i).lists
+    CallRuns state size (grant_step i class (length (slab_at lists.slabs i).numbers) (lists.granted + 1) ∷ []) lists (from_begun lists class i).lists
 unfolding object_offset
 run_begun state lists size class i asked below same free =
-    let P : ℕ → Type 0 = λ c. CallRuns state size (grant_step i c (length (slab_at lists.slabs i).numbers) (lists.granted + 1) ∷ []) (from_begun lists class i).lists in
+    let P : ℕ → Type 0 = λ c. CallRuns state size (grant_step i c (length (slab_at lists.slabs i).numbers) (lists.granted + 1) ∷ []) lists (from_begun lists class i).lists in
     subst P same run_own
   where
-    run_own : CallRuns state size (grant_step i (slab_at lists.slabs i).class (length (slab_at lists.slabs i).numbers) (lists.granted + 1) ∷ []) (from_begun lists class i).lists
+    run_own : CallRuns state size (grant_step i (slab_at lists.slabs i).class (length (slab_at lists.slabs i).numbers) (lists.granted + 1) ∷ []) lists (from_begun lists class i).lists
     run_own =
         let first = first_class-found size class asked.found in
         let own_free : length (slab_at lists.slabs i).numbers < class_objects (slab_at lists.slabs i).class = omega (arith, free, ap class_objects same) in
@@ -161,12 +145,15 @@ run_begun state lists size class i asked below same free =
             ),
           );
           holds = after;
+          totals = begun_totals state.held lists.region lists.slabs i (lists.granted + 1) live.2 below own_free
+              (one_whole (grant_part i (slab_at lists.slabs i).class (length (slab_at lists.slabs i).numbers) (lists.granted + 1)) (object_whole i (slab_at lists.slabs i).class (length (slab_at lists.slabs i).numbers) (omega (arith, asked.holds.few)) (omega (arith, first.exists, same)) own_free))
+              made.1;
           after = λ events. refl;
         }
 
 -- nothing of the class is free, and there is no room for a slab
 run_refused : (state : State) (lists : Lists) (size class : ℕ) → IsAsked state lists size class → position (has_free class) lists.slabs ≡ None → 64 ≤ length lists.slabs →
-    CallRuns state size (look_step ∷ []) lists
+    CallRuns state size (look_step ∷ []) lists lists
 run_refused state lists size class asked none full =
     let live = region_live state lists asked.holds (omega arith) in
     record {
@@ -221,6 +208,7 @@ run_refused state lists size class asked none full =
         ),
       );
       holds = asked.holds;
+      totals = λ before. before;
       after = λ events. refl;
     }
 
@@ -263,7 +251,7 @@ region_first (Some region) is = ap Some (sym is)
 
 -- the first object of a slab, where the region is there
 run_taken : (state : State) (lists : Lists) (size class : ℕ) → IsAsked state lists size class → is_some lists.region ≡ true → length lists.slabs < 64 →
-    CallRuns state size (fresh_steps true (length lists.slabs) class (lists.granted + 1)) (from_fresh lists class).lists
+    CallRuns state size (fresh_steps true (length lists.slabs) class (lists.granted + 1)) lists (from_fresh lists class).lists
 unfolding object_offset
 run_taken state lists size class asked some few =
     let exists = (first_class-found size class asked.found).exists in
@@ -318,12 +306,13 @@ run_taken state lists size class asked some few =
         ),
       );
       holds = subst R region_is gave.1;
+      totals = taken_totals state.held lists.region lists.slabs class (lists.granted + 1) (omega arith) few some asked.holds.region_is (one_whole (take_part (length lists.slabs)) whole_slab) taken.0.1 (two_apart (head_part (length lists.slabs) class) (rest_part (length lists.slabs) class) (omega arith)) (two_whole (head_part (length lists.slabs) class) (rest_part (length lists.slabs) class) (head_whole (length lists.slabs) class few) (objects_whole (length lists.slabs) class few exists)) made.0.1 (one_whole (grant_part (length lists.slabs) class 0 (lists.granted + 1)) (object_whole (length lists.slabs) class 0 few exists (omega arith))) gave.0.1;
       after = λ events. refl;
     }
 
 -- the first object of a slab, for which the region comes
 run_come : (state : State) (lists : Lists) (size class : ℕ) → IsAsked state lists size class → is_some lists.region ≡ false → length lists.slabs < 64 →
-    CallRuns state size (fresh_steps false (length lists.slabs) class (lists.granted + 1)) (from_fresh lists class).lists
+    CallRuns state size (fresh_steps false (length lists.slabs) class (lists.granted + 1)) lists (from_fresh lists class).lists
 unfolding object_offset
 run_come state lists size class asked unasked few =
     let exists = (first_class-found size class asked.found).exists in
@@ -380,29 +369,31 @@ run_come state lists size class asked unasked few =
         ),
       );
       holds = subst R region_is gave.1;
+      totals = λ before. come_totals state.held lists.region lists.slabs class (lists.granted + 1) (omega arith) (asked.holds.unasked unasked) unasked (asked.holds.nowhere unasked)
+          (one_whole come_part (record { some = lit< tt; ends = lit≤ tt })) comes.0.1 (one_whole put_part (record { some = lit< tt; ends = lit≤ tt })) comes.1.1 (two_apart (head_part (length lists.slabs) class) (rest_part (length lists.slabs) class) (omega arith)) (two_whole (head_part (length lists.slabs) class) (rest_part (length lists.slabs) class) (head_whole (length lists.slabs) class few) (objects_whole (length lists.slabs) class few exists)) made.0.1 (one_whole (grant_part (length lists.slabs) class 0 (lists.granted + 1)) (object_whole (length lists.slabs) class 0 few exists (omega arith))) gave.0.1;
       after = λ events. refl;
     }
 
 -- a malloc where this is the first slab with an object left
 run_at : (state : State) (lists : Lists) (size class : ℕ) (found : Option ℕ) → IsAsked state lists size class → position (has_free class) lists.slabs ≡ found →
-    CallRuns state size (steps_at lists class found) (whole_at lists class found).lists
+    CallRuns state size (steps_at lists class found) lists (whole_at lists class found).lists
 run_at state lists size class (Some i) asked is =
     let place = position-Some (has_free class) lists.slabs i no_slab is in
     let free = and_parts _ _ place.1 in
     run_begun state lists size class i asked place.0 (eqb-true _ _ free.0) (ltb-true _ _ free.1)
 run_at state lists size class None asked is = by_room (nat_lt (length lists.slabs) 64) refl
   where
-    by_region : (some : Bool) → is_some lists.region ≡ some → length lists.slabs < 64 → CallRuns state size (fresh_steps some (length lists.slabs) class (lists.granted + 1)) (from_fresh lists class).lists
+    by_region : (some : Bool) → is_some lists.region ≡ some → length lists.slabs < 64 → CallRuns state size (fresh_steps some (length lists.slabs) class (lists.granted + 1)) lists (from_fresh lists class).lists
     by_region true some few = run_taken state lists size class asked some few
     by_region false unasked few = run_come state lists size class asked unasked few
 
     by_room : (few : Bool) → nat_lt (length lists.slabs) 64 ≡ few →
-        CallRuns state size (if few then fresh_steps (is_some lists.region) (length lists.slabs) class (lists.granted + 1) else look_step ∷ []) (if few then from_fresh lists class else refused lists).lists
+        CallRuns state size (if few then fresh_steps (is_some lists.region) (length lists.slabs) class (lists.granted + 1) else look_step ∷ []) lists (if few then from_fresh lists class else refused lists).lists
     by_room true few = by_region (is_some lists.region) refl (ltb-true _ _ few)
     by_room false full = run_refused state lists size class asked is (ltb-false _ _ full)
 
 -- a whole malloc
-pub run_whole : (state : State) (lists : Lists) (size : ℕ) → size ≤ 8128 → lists.granted < 2 ^ 55 - 1 → Holds state lists → CallRuns state size (steps_of lists (class_at size)) (whole lists (class_at size)).lists
+pub run_whole : (state : State) (lists : Lists) (size : ℕ) → size ≤ 8128 → lists.granted < 2 ^ 55 - 1 → Holds state lists → CallRuns state size (steps_of lists (class_at size)) lists (whole lists (class_at size)).lists
 run_whole state lists size small room holds =
     let found = first_class-some size small in
     let is : first_class size ≡ Some (class_at size) = found.1 ∙ ap Some (sym (ap (λ (o : Option ℕ). unwrap_or o 0) found.1)) in

@@ -1,6 +1,6 @@
 -- The leaks of the lists are the objects that the partition holds.
 use Prim.Native.Nat.{zero, suc}
-use Rattle.std.proofs.Common.{◌≡◌, ◌≢◌, ℕ, ◌+◌, ◌-◌, ◌*◌, ◌/◌, ◌<◌, ◌≤◌, Bool, true, false, List, [], ◌∷◌, ◌++◌, length, get_or, Some, None, refl, sym, ◌∙◌, ap, arith, ◌⊎◌, inl, inr, subst, zero-add}
+use Rattle.std.proofs.Common.{◌≡◌, ℕ, ◌+◌, ◌-◌, ◌*◌, ◌/◌, ◌<◌, ◌≤◌, true, List, [], ◌∷◌, ◌++◌, length, get_or, Some, None, sym, ◌∙◌, ap, arith, inl, inr, subst, zero-add}
 use Rattle.std.specs.Prelude.{Contains, is_some}
 use Rattle.std.proofs.lemmas.Bool.{cases_lt, cases_eq, cases_Bool}
 use Rattle.std.proofs.lemmas.List.Elements.{Contains-append_cases, Contains-append_left, Contains-append_right}
@@ -9,7 +9,6 @@ use Rattle.pool_types.specs.declared.values.Grant.{Grant}
 use Rattle.pool_types.specs.declared.values.Leak.{Leak}
 use Rattle.part_model.specs.declared.holders.Holder.TheVariants.{Head, Rest, Object, Bin}
 use Rattle.part_model.specs.Holding.{Holding, lies_in}
-use Rattle.part_model.proofs.Ranges.{lies_in-parts, place_is}
 use Rattle.size_classes.specs.Classes.{class_size, class_objects}
 use Rattle.slab_core.specs.Layout.{object_offset}
 use Rattle.machine.specs.States.{State}
@@ -37,13 +36,13 @@ from_member : (i : ℕ) (slabs : List SlabGrants) (leak : Leak) → Contains (le
 from_member i [] leak member = absurd (omega (arith, member.1))
 from_member i (slab ∷ slabs) leak member = elim (Contains-append_cases (leaks_below i slab (length slab.numbers)) (leaks_from (i + 1) slabs) leak member) [
   | inl here ↦
-    let found = below_member i slab (length slab.numbers) leak here in
-    let same : i ≡ i + 0 = omega arith in
-    (0, omega arith, (found.0, found.1, found.2 ∙ ap (λ k. leak_at k slab found.0) same))
+      let found = below_member i slab (length slab.numbers) leak here in
+      let same : i ≡ i + 0 = omega arith in
+      (0, omega arith, (found.0, found.1, found.2 ∙ ap (λ k. leak_at k slab found.0) same))
   | inr later ↦
-    let found = from_member (i + 1) slabs leak later in
-    let same : i + 1 + found.0 ≡ i + suc found.0 = omega arith in
-    (suc found.0, omega (arith, found.1), (found.2.0, found.2.1, found.2.2 ∙ ap (λ k. leak_at k (get_or slabs found.0 no_slab) found.2.0) same))
+      let found = from_member (i + 1) slabs leak later in
+      let same : i + 1 + found.0 ≡ i + suc found.0 = omega arith in
+      (suc found.0, omega (arith, found.1), (found.2.0, found.2.1, found.2.2 ∙ ap (λ k. leak_at k (get_or slabs found.0 no_slab) found.2.0) same))
 ]
 
 -- and each object of a slab is listed

@@ -12,6 +12,8 @@ use Rattle.machine.specs.Journal.{Entry}
 use Rattle.machine.specs.Runs.{Event, Makes, IsRunFrom, after_events}
 use Rattle.poolreplay.specs.Lists.{Lists, no_lists, has_free, whole, whole_at, from_fresh, refused, class_at, lists_after, answers_to}
 use Rattle.poolreplay.specs.Journal.{fixed_terms, steps_at, steps_of, fresh_steps, look_step, events_to, requests_in, answers_in}
+use Rattle.part_model.specs.Totals.{totals_of}
+use Rattle.poolreplay.specs.Held.{totals_at}
 use Rattle.poolreplay.proofs.Holds.{Holds}
 use Rattle.poolreplay.proofs.ListLemmas.{granted_whole}
 use Rattle.poolreplay.proofs.Calls.{idle, run_whole}
@@ -37,10 +39,11 @@ pub record JournalRuns (state : State) (lists : Lists) (sizes : List ℕ) : Type
   pub next : State
   pub run : IsRunFrom fixed_terms (idle state) (events_to lists sizes)
   pub holds : Holds next (lists_after lists sizes)
+  pub totals : totals_of state.held ≡ totals_at lists → totals_of next.held ≡ totals_at (lists_after lists sizes)
   pub after : after_events (idle state) (events_to lists sizes) ≡ idle next
 
 pub journal_runs : (state : State) (lists : Lists) (sizes : List ℕ) → All (λ size. size ≤ 8128) sizes → lists.granted + length sizes < 2 ^ 55 - 1 → Holds state lists → JournalRuns state lists sizes
-journal_runs state lists [] small room holds = record { next = state; run = tt; holds = holds; after = refl }
+journal_runs state lists [] small room holds = record { next = state; run = tt; holds = holds; totals = λ before. before; after = refl }
 journal_runs state lists (size ∷ sizes) small room holds =
     let call = run_whole state lists size (small 0 0 (omega arith)) (omega arith) holds in
     let more : (whole lists (class_at size)).lists.granted + length sizes < 2 ^ 55 - 1 = omega (arith, granted_whole lists (class_at size)) in
@@ -49,6 +52,7 @@ journal_runs state lists (size ∷ sizes) small room holds =
       next = later.next;
       run = call.run (events_to (whole lists (class_at size)).lists sizes) later.run;
       holds = later.holds;
+      totals = λ before. later.totals (call.totals before);
       after = call.after (events_to (whole lists (class_at size)).lists sizes) ∙ later.after;
     }
 

@@ -12,3 +12,5 @@ pub mod Legal
 pub mod Calls
 pub mod Journals
 pub mod HeldLeaks
+pub mod HeldTotals
+pub mod CallTotals

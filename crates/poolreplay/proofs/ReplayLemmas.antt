@@ -1,6 +1,6 @@
 -- A trace that was read asks for sizes that have a class.
 use Prim.Native.Nat.{zero, suc}
-use Rattle.std.proofs.Common.{refl, ◌≡◌, ℕ, ◌+◌, ◌≤◌, List, [], ◌∷◌, length, Some, None, sym, ◌∙◌, ap, subst, lit<, lit≤, arith}
+use Rattle.std.proofs.Common.{◌≡◌, ℕ, ◌+◌, ◌≤◌, List, [], ◌∷◌, length, Some, None, refl, sym, ◌∙◌, ap, subst, lit<, lit≤, arith}
 use Rattle.std.specs.Prelude.{All, Contains}
 use Rattle.std.specs.declared.option.Option.{Option}
 use Rattle.trace_reader.specs.declared.first.FirstAct.{FirstAct}
@@ -15,16 +15,19 @@ use Rattle.pool_types.specs.declared.policy.RegionRec.{RegionRec}
 use Rattle.pool_types.specs.Script.{IsAnswer}
 use Rattle.machine.specs.States.{State, nothing_yet}
 use Rattle.machine.specs.Runs.{Progress}
+use Rattle.part_model.specs.declared.totals.Totals.{Totals}
+use Rattle.part_model.specs.Totals.{totals_of}
 use Rattle.trace_reader.specs.First.{lines_in}
 use Rattle.trace_reader.proofs.FirstLemmas.{lines_in-after}
 use Rattle.poolreplay.specs.Lists.{no_lists, lists_after}
 use Rattle.poolreplay.specs.Held.{totals_at, leaks_at}
-use Rattle.poolreplay.specs.Journal.{events_to}
+use Rattle.poolreplay.specs.Journal.{events_to, answers_in}
 use Rattle.poolreplay.specs.Running.{run_text}
 use Rattle.poolreplay.specs.Replay.{IsReplayed}
 use Rattle.poolreplay.proofs.RegionLemmas.{first_by_rule}
 use Rattle.poolreplay.specs.Leaks.{AreLeaks}
 use Rattle.poolreplay.proofs.HeldLeaks.{leaks_are}
+use Rattle.poolreplay.proofs.CallTotals.{nothing_total}
 use Rattle.poolreplay.proofs.Holds.{regions_of}
 use Rattle.poolreplay.proofs.Journals.{JournalRuns, journal_runs, nothing_holds, answers_in-events, requests_in-events}
 
@@ -110,8 +113,12 @@ replayed bytes text acts spelled report =
       events = events_to no_lists (sizes_of acts);
       run = (record { valid = refl; supported = refl; limits_in = ((refl, refl, refl), refl) }, journal.run);
       asked = requests_in-events no_lists (sizes_of acts);
+      answered = answers_in-events no_lists (sizes_of acts);
       region = subst (λ (progress : Progress). end progress.state) (sym journal.after) given;
       leaks = leaks_at (lists_after no_lists (sizes_of acts));
       held = subst (λ (progress : Progress). AreLeaks progress.state.held (leaks_at (lists_after no_lists (sizes_of acts)))) (sym journal.after) (leaks_are journal.next (lists_after no_lists (sizes_of acts)) journal.holds);
-      report = report ∙ ap (λ (answers : List Answer). report_text acts answers (totals_at (lists_after no_lists (sizes_of acts))) (leaks_at (lists_after no_lists (sizes_of acts)))) (sym (answers_in-events no_lists (sizes_of acts)));
+      report = report
+          ∙ ap (λ (answers : List Answer). report_text acts answers (totals_at (lists_after no_lists (sizes_of acts))) (leaks_at (lists_after no_lists (sizes_of acts)))) (sym (answers_in-events no_lists (sizes_of acts)))
+          ∙ ap (λ (totals : Totals). report_text acts (answers_in (events_to no_lists (sizes_of acts))) totals (leaks_at (lists_after no_lists (sizes_of acts))))
+          (sym (ap (λ (progress : Progress). totals_of progress.state.held) journal.after ∙ journal.totals (nothing_total nothing_yet.held (λ byte. refl))));
     }
