@@ -1,8 +1,8 @@
 -- How the words of a line are read, from left to right.
-use Rattle.std.specs.Prelude.{◌≡◌, ℕ, ◌+◌, ◌<◌, ◌≤◌, ◌⊎◌, Bool, true, false, List, length, slice_get, Some, None, Result, Ok, Err}
+use Rattle.std.specs.Prelude.{◌≡◌, ℕ, ◌+◌, ◌<◌, ◌≤◌, ◌⊎◌, List, length, slice_get, Some, None, Result, Ok, Err}
 use Rattle.std.specs.declared.option.Option.{Option}
 use Rattle.trace_reader.specs.declared.refusal.Fault.{Fault}
-use Rattle.trace_reader.specs.declared.refusal.Fault.TheVariants.{Spelling, NotServed}
+use Rattle.trace_reader.specs.declared.refusal.Fault.TheVariants.{Spelling}
 
 -- what a word is read as, or that it is missing
 abbrev pub OnWord : {A : Type 0} → (List ℕ → Result A Fault → Type 0) → Option (List ℕ) → Result A Fault → Type 0
@@ -26,8 +26,3 @@ Ends value words at result = ((length words ≤ at) × (result ≡ Ok value)) �
 abbrev pub Wraps : {A B : Type 0} → (A → B) → (List (List ℕ) → ℕ → Result A Fault → Type 0) → List (List ℕ) → ℕ → Result B Fault → Type 0
 Wraps {A} wrap form words at result = ((fault : Fault) × form words at (Err fault) × (result ≡ Err fault))
     ⊎ ((value : A) × form words at (Ok value) × (result ≡ Ok (wrap value)))
-
--- a form that is read only where it is served
-abbrev pub IfServed : {A : Type 0} → Bool → (List (List ℕ) → ℕ → Result A Fault → Type 0) → List (List ℕ) → ℕ → Result A Fault → Type 0
-IfServed true form words at result = form words at result
-IfServed false form words at result = result ≡ Err NotServed
