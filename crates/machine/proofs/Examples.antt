@@ -109,6 +109,7 @@ scrap_refuses = record {
         there = λ block member. absurd (none_in block member);
         all = λ byte bin. absurd (scrap_held (λ holder. holder ≡ Some Bin → ⊥) (λ e. cc) (λ e. cc) byte bin);
         joined = λ once one other member. absurd (none_in one member);
+        blocks = λ block member. absurd (none_in block member);
       },
       (
         Small 0,

@@ -1,6 +1,6 @@
 -- The entries of a journal, and the state after one.
-use Rattle.std.specs.Prelude.{ℕ, ◌+◌, ◌&&◌, ◌==◌, not, Bool, true, false, if◌then◌else◌, List, [], ◌∷◌, ◌++◌, map, filter, Option, Some, None}
-use Rattle.std.specs.List.{list_any}
+use Rattle.std.specs.Prelude.{ℕ, ◌+◌, ◌-◌, ◌&&◌, ◌==◌, not, Bool, true, false, if◌then◌else◌, List, [], ◌∷◌, ◌++◌, map, filter, Option, Some, None}
+use Rattle.std.specs.List.{list_any, flat_map}
 use Rattle.pool_types.specs.declared.values.Place.{Place}
 use Rattle.pool_types.specs.declared.values.Answer.{Answer}
 use Rattle.pool_types.specs.declared.policy.RegionRec.{RegionRec}
@@ -8,12 +8,13 @@ use Rattle.pool_types.specs.declared.rows.Row.{Row}
 use Rattle.pool_types.specs.declared.rows.KeeperChange.{KeeperChange}
 use Rattle.part_model.specs.declared.holders.Holder.{Holder}
 use Rattle.part_model.specs.declared.holders.Holder.TheVariants.{Object}
+use Rattle.part_model.specs.declared.holders.Kind.TheVariants.{Bin as OfBin}
 use Rattle.part_model.specs.declared.moves.Range.{Range}
 use Rattle.part_model.specs.declared.moves.Part.{Part}
 use Rattle.part_model.specs.Holding.{after_parts}
-use Rattle.part_model.specs.Totals.{has_holder}
+use Rattle.part_model.specs.Totals.{has_holder, is_at}
 use Rattle.machine.specs.States.{State, Slab}
-use Rattle.machine.specs.Ranges.{same_place}
+use Rattle.machine.specs.Ranges.{same_place, range_at, lies_across}
 
 -- a change of the book of slabs: a slab enters, the slab at a place leaves, or a slab goes from one keeper to another
 pub data BookChange : Type 0 where
@@ -90,6 +91,28 @@ abbrev pub book_after : List Slab → List BookChange → List Slab
 book_after book [] = book
 book_after book (change ∷ changes) = book_after (book_changed book change) changes
 
+-- the range, where it has a byte
+abbrev pub some_range : Range → List Range
+some_range range = if range.bytes == 0 then [] else range ∷ []
+
+-- what is left of a block where a range is taken out of it: what lies before the range, and what lies behind it
+abbrev pub block_left : Range → Range → List Range
+block_left taken block =
+    if lies_across taken block
+    then some_range (range_at block.place block.place.offset (taken.place.offset - block.place.offset))
+    ++ some_range (range_at block.place (taken.place.offset + taken.bytes) (block.place.offset + block.bytes - (taken.place.offset + taken.bytes)))
+    else block ∷ []
+
+-- the blocks in bins after one part: what comes from bins is taken out of its block, and what goes to bins is a block
+abbrev pub blocks_moved : List Range → Part → List Range
+blocks_moved blocks part =
+    (if is_at OfBin part.from then flat_map (block_left part.range) blocks else blocks) ++ (if is_at OfBin part.to then part.range ∷ [] else [])
+
+-- the blocks in bins after several parts
+abbrev pub blocks_after : List Range → List Part → List Range
+blocks_after blocks [] = blocks
+blocks_after blocks (part ∷ parts) = blocks_after (blocks_moved blocks part) parts
+
 -- the state after an entry
 abbrev pub after_entry : State → Entry → State
 after_entry state entry = record {
@@ -98,6 +121,7 @@ after_entry state entry = record {
   next = next_after state.next entry.region;
   book = book_after state.book entry.book;
   last = last_after state.last entry.seat entry.parts;
+  blocks = blocks_after state.blocks entry.parts;
 }
 
 -- the state after several entries

@@ -1,5 +1,5 @@
 -- The ranges of granules, of slabs and of their objects. Bytes are counted from the region's first byte.
-use Rattle.std.specs.Prelude.{◌≡◌, ℕ, ◌+◌, ◌-◌, ◌*◌, ◌%◌, ◌<◌, ◌≤◌, ◌&&◌, ◌==◌, Bool, List, [], ◌∷◌, map, Contains, Option}
+use Rattle.std.specs.Prelude.{◌≡◌, ℕ, ◌+◌, ◌-◌, ◌*◌, ◌%◌, ◌<◌, ◌≤◌, ◌&&◌, ◌==◌, Bool, nat_lt, List, [], ◌∷◌, map, Contains, Option}
 use Rattle.std.specs.List.{list_any}
 use Rattle.pool_types.specs.declared.values.Place.{Place}
 use Rattle.pool_types.specs.declared.policy.Limits.{Limits}
@@ -24,6 +24,12 @@ AreDisjoint (range ∷ ranges) = Each (IsApart range) ranges × AreDisjoint rang
 -- the bytes from an offset on, in the region of a place
 abbrev pub range_at : Place → ℕ → ℕ → Range
 range_at place offset bytes = record { place = record { pool = place.pool; region = place.region; offset = offset }; bytes = bytes }
+
+-- some byte lies in both
+abbrev pub lies_across : Range → Range → Bool
+lies_across one other =
+    same_region one.place other.place
+    && nat_lt one.place.offset (other.place.offset + other.bytes) && nat_lt other.place.offset (one.place.offset + one.bytes)
 
 -- the bytes from an offset on, in a region of the pool
 abbrev pub region_range : ℕ → RegionRec → ℕ → ℕ → Range

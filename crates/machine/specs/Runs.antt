@@ -129,16 +129,25 @@ is_put part = is_at OfBin part.to
 abbrev pub IsJustPut : Progress → ℕ → Place → Type 0
 IsJustPut progress seat byte = (call : Call) × IsOtherCall progress seat call × (lies_in_parts byte (filter is_put (moved_parts call.moments)) ≡ true)
 
+-- a part takes bytes out of bins
+abbrev pub is_taken : Part → Bool
+is_taken part = is_at OfBin part.from
+
+-- another call that is open has won this block out of bins, and perhaps not yet taken it out of its list
+abbrev pub IsWon : Progress → ℕ → Range → Type 0
+IsWon progress seat block =
+    (call : Call) × IsOtherCall progress seat call × Contains (map (λ part. part.range) (filter is_taken (moved_parts call.moments))) block
+
 -- a byte of the one range lies right before the other range, or right behind it
 abbrev pub Touches : Range → Range → Type 0
 Touches one other =
     (same_region one.place other.place ≡ true)
     × ((one.place.offset + one.bytes ≡ other.place.offset) ⊎ (other.place.offset + other.bytes ≡ one.place.offset))
 
--- The lists of a look are those of the bins. Their blocks are whole granules and have no byte in common. Each is in bins, or another
--- seat that is in a call has won it and not yet taken it out of its list. A byte in bins lies in one of them, unless another call that
--- is open has put its block and perhaps not yet linked it. As long as no two calls were open at once, no two blocks touch. Once two were,
--- it isn't said at which of the granules in bins one block ends and the next begins.
+-- The lists of a look are those of the bins. Their blocks are whole granules and have no byte in common. Each is a block in bins, as it was
+-- put or as it was left, or another seat that is in a call has won it and not yet taken it out of its list. A byte in bins lies in one of
+-- them, unless another call that is open has put its block and perhaps not yet linked it. As long as no two calls were open at once, no
+-- two blocks touch.
 pub record AreLists (terms : Terms) (progress : Progress) (seat : ℕ) (lists : List Range) : Type 0 where
   pub whole : Each (λ block. (granules : ℕ) × IsGranules terms.limits progress.state block granules) lists
   pub disjoint : AreDisjoint lists
@@ -148,6 +157,7 @@ pub record AreLists (terms : Terms) (progress : Progress) (seat : ℕ) (lists : 
   pub all : (byte : Place) → progress.state.held byte ≡ Some Bin →
       ((block : Range) × Contains lists block × (lies_in byte block ≡ true)) ⊎ IsJustPut progress seat byte
   pub joined : progress.overlapped ≡ false → (one other : Range) → Contains lists one → Contains lists other → Touches one other → ⊥
+  pub blocks : (block : Range) → Contains lists block → Contains progress.state.blocks block ⊎ IsWon progress seat block
 
 -- A call scans the bins only where it has to. For a slab no slab of the class that its seat keeps has an object to give, and its slab
 -- cache is empty; and where no other seat was in a call since it began, no freed object and no orphan of the class waits for it. For a

@@ -5,6 +5,7 @@ use Rattle.pool_types.specs.declared.policy.Policy.{Policy}
 use Rattle.pool_types.specs.declared.policy.Limits.{Limits}
 use Rattle.pool_types.specs.declared.policy.RegionRec.{RegionRec}
 use Rattle.pool_types.specs.declared.rows.Keeper.{Keeper}
+use Rattle.part_model.specs.declared.moves.Range.{Range}
 use Rattle.part_model.specs.Holding.{Holding}
 
 -- what the pool was made with: this never changes
@@ -18,15 +19,17 @@ pub record Slab : Type 0 where
   pub class : ℕ
   pub keeper : Keeper
 
--- Where each byte is, the live regions, the least region number that was never used, the book of slabs, and the number of the last
--- object that each seat was granted. The places of all bytes bear the pool's number.
+-- Where each byte is, the live regions, the least region number that was never used, the book of slabs, the number of the last object
+-- that each seat was granted, and the blocks in bins, as they were put or as they were left where a part was taken out. The places of
+-- all bytes bear the pool's number.
 pub record State : Type 0 where
   pub held : Holding
   pub regions : List RegionRec
   pub next : ℕ
   pub book : List Slab
   pub last : ℕ → ℕ
+  pub blocks : List Range
 
 -- no region, no slab, and nothing granted
 abbrev pub nothing_yet : State
-nothing_yet = record { held = λ byte. None; regions = []; next = 0; book = []; last = λ seat. 0 }
+nothing_yet = record { held = λ byte. None; regions = []; next = 0; book = []; last = λ seat. 0; blocks = [] }

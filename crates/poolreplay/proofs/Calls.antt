@@ -175,6 +175,7 @@ run_refused state lists size class asked none full =
                   there = λ block member. absurd (omega (arith, member.1));
                   all = λ byte bin. absurd (full_no_bin state lists asked.holds full byte bin);
                   joined = λ apart one other member. absurd (omega (arith, member.1));
+                  blocks = λ block member. absurd (omega (arith, member.1));
                 },
                 (Small class, served_plain_at-small size class asked.found, (none_free state lists class asked.holds none, λ alone. none_waits state lists class asked.holds)),
               ),
