@@ -1,3 +1,4 @@
+pub mod Counting
 pub mod StreamLemmas
 pub mod SlabLemmas
 pub mod RegionLemmas

@@ -29,6 +29,8 @@ use Rattle.poolreplay.specs.Leaks.{AreLeaks}
 use Rattle.poolreplay.proofs.HeldLeaks.{leaks_are}
 use Rattle.poolreplay.proofs.CallTotals.{nothing_total}
 use Rattle.poolreplay.proofs.Holds.{regions_of}
+use Rattle.poolreplay.specs.Counts.{ArePlaced}
+use Rattle.poolreplay.proofs.Counting.{placed, nothing_counted}
 use Rattle.poolreplay.proofs.Journals.{JournalRuns, journal_runs, nothing_holds, answers_in-events, requests_in-events}
 
 -- one more that has the fact
@@ -114,6 +116,7 @@ replayed bytes text acts spelled report =
       run = (record { valid = refl; supported = refl; limits_in = ((refl, refl, refl), refl) }, journal.run);
       asked = requests_in-events no_lists (sizes_of acts);
       answered = answers_in-events no_lists (sizes_of acts);
+      placed = subst (ArePlaced [] (sizes_of acts)) (sym (answers_in-events no_lists (sizes_of acts))) (placed [] no_lists (sizes_of acts) (sizes_small acts (spelled_small bytes acts spelled)) nothing_counted);
       region = subst (λ (progress : Progress). end progress.state) (sym journal.after) given;
       leaks = leaks_at (lists_after no_lists (sizes_of acts));
       held = subst (λ (progress : Progress). AreLeaks progress.state.held (leaks_at (lists_after no_lists (sizes_of acts)))) (sym journal.after) (leaks_are journal.next (lists_after no_lists (sizes_of acts)) journal.holds);

@@ -1,3 +1,4 @@
+pub mod Counts
 pub mod Fresh
 pub mod Journal
 pub mod Leaks

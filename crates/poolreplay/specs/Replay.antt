@@ -15,6 +15,7 @@ use Rattle.machine.specs.States.{State}
 use Rattle.machine.specs.Runs.{Event, IsRun, no_progress, after_events}
 use Rattle.pool_types.specs.declared.values.Leak.{Leak}
 use Rattle.part_model.specs.Totals.{totals_of}
+use Rattle.poolreplay.specs.Counts.{ArePlaced}
 use Rattle.poolreplay.specs.Leaks.{AreLeaks}
 use Rattle.poolreplay.specs.Lists.{no_lists, answers_to}
 use Rattle.poolreplay.specs.Journal.{fixed_terms, requests_in, answers_in}
@@ -31,8 +32,8 @@ end_of events = (after_events no_progress events).state
 -- The bytes spell a trace. There is a journal that is a run of the partition machine, from no region on: so each move is lawful, each
 -- object suits its request and was at rest before, and null comes only where no bin has a block that fits. Its calls ask for the sizes
 -- in the lines, and its answers are those of whole mallocs over the plain lists, one after another: so the bytes settle the text. Each
--- region is the one that a callback without a script gives. The text is the report of the lines, with the journal's
--- answers, and with the totals and the objects of the partition at its end.
+-- object lies where the counts of earlier objects say. Each region is the one that a callback without a script gives. The text is the
+-- report of the lines, with the journal's answers, and with the totals and the objects of the partition at its end.
 pub record IsReplayed (bytes text : List ℕ) : Type 0 where
   pub acts : List FirstAct
   pub spelled : Spells bytes acts
@@ -40,6 +41,7 @@ pub record IsReplayed (bytes text : List ℕ) : Type 0 where
   pub run : IsRun fixed_terms events
   pub asked : requests_in events ≡ map Malloc (sizes_of acts)
   pub answered : answers_in events ≡ answers_to no_lists (sizes_of acts)
+  pub placed : ArePlaced [] (sizes_of acts) (answers_in events)
   pub region : (region : RegionRec) → Contains (end_of events).regions region → IsAnswer None [] 1048576 (Some region.region)
   pub leaks : List Leak
   pub held : AreLeaks (end_of events).held leaks
