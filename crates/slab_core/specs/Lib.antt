@@ -1,2 +1,4 @@
+pub mod Headers
 pub mod Layout
+pub mod PrivateLists
 pub mod Slabs

@@ -1,5 +1,5 @@
--- What a slab's record says, and what taking an object changes.
-use Rattle.std.specs.Prelude.{◌≡◌, ℕ, ◌+◌, ◌<◌, ◌≤◌, Option, Some, None}
+-- What a slab's record says, and what taking and freeing an object change.
+use Rattle.std.specs.Prelude.{◌≡◌, ℕ, ◌+◌, ◌-◌, ◌<◌, ◌≤◌, Option, Some, None}
 use Rattle.size_classes.specs.Classes.{class_objects}
 use Rattle.slab_core.specs.declared.SlabRec.{SlabRec}
 
@@ -42,3 +42,7 @@ next_object slab = next slab.head
     next : Option ℕ → ℕ
     next (Some object) = object
     next None = slab.handed
+
+-- the slab with one object fewer held: this one, which becomes the head
+abbrev pub after_free : SlabRec → ℕ → SlabRec
+after_free slab object = record slab { head = Some object; count = slab.count - 1 }

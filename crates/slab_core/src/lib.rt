@@ -1,4 +1,4 @@
-//! One slab: which of its objects were handed out, and where they lie.
+//! One slab: which of its objects were handed out, the newest that came back, where they lie, and its header word.
 //!
 //! A slab has 16384 bytes: a head, and behind it objects of one size. The record follows a block of oneTBB's
 //! `src/tbbmalloc/frontend.cpp` (`Block`: `bumpPtr`, `freeList` and `allocatedCount`). That objects go by their number
@@ -8,10 +8,11 @@
 ghost use Rattle.std.specs.Prelude.{◌≡◌, ◌≤◌, ◌<◌, ◌+◌, ◌*◌, ◌/◌, IsTrue, IsNone, ◌↔◌, None, IfSome, OnSome, IfNone};
 ghost use Rattle.size_classes.specs.Classes.{class_size, class_objects};
 ghost use Rattle.slab_core.specs.Layout.{object_offset, head_bytes};
-ghost use Rattle.slab_core.specs.Slabs.{IsValid, IsBelowHead, IsUsedUp, after_take, next_object};
+ghost use Rattle.slab_core.specs.Slabs.{IsValid, IsNewest, IsBelowHead, IsUsedUp, after_take, after_free, next_object};
 
 use size_classes::Class;
 
+mod header;
 pub mod laws;
 
 /// The bytes of a slab.
@@ -54,6 +55,23 @@ impl SlabRec {
         }
     }
 
+    /// Whether the record is valid.
+    pub fn is_valid(&self) -> bool
+        ensures { IsTrue result ↔ IsValid self.now }
+    {
+        self.count <= self.handed && self.handed <= self.class.objects() && self.has_right_head()
+    }
+
+    /// Whether the head is an object that was handed out, where fewer are held than that, and is none where all are.
+    fn has_right_head(&self) -> bool
+        ensures { IsTrue result ↔ IsNewest self.now.head self.now.count self.now.handed }
+    {
+        match self.head {
+            Some(object) => object < self.handed && self.count < self.handed,
+            None => self.handed <= self.count,
+        }
+    }
+
     /// Takes the newest private object, or where there is none the next of the rest. `below` is the private object after
     /// the head. None is the answer exactly where there is neither, and then nothing is changed.
     pub fn take(&mut self, below: Option<u32>) -> Option<u32>
@@ -77,6 +95,20 @@ impl SlabRec {
         self.handed += 1;
         self.count += 1;
         Some(object)
+    }
+
+    /// Takes an object back: it becomes the newest private one. The object is one that was handed out and is not
+    /// private. The record names only the newest private object, so that it is none of the others is the caller's to
+    /// know.
+    pub fn free(&mut self, object: u32)
+        requires valid { IsValid self.old }
+        requires held { 1 ≤ self.old.count }
+        requires handed { object < self.old.handed }
+        ensures freed { self.new ≡ after_free self.old object }
+        ensures valid { IsValid self.new }
+    {
+        self.head = Some(object);
+        self.count -= 1;
     }
 
     /// Whether no object is held.

@@ -1,0 +1,5 @@
+use Rattle.slab_core.proofs.PrivateLemmas.{frees}
+use Rattle.slab_core.proofs.laws.frees_to_private_list.Goals as goal
+
+pub returns : goal.returns
+returns c = frees
