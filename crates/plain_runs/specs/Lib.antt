@@ -1,0 +1,4 @@
+pub mod Steps
+pub mod Journal
+pub mod Leaks
+pub mod Laws
