@@ -1,0 +1,9 @@
+pub mod Finds
+pub mod BinLemmas
+pub mod SlabLemmas
+pub mod SlabCalls
+pub mod RegionLemmas
+pub mod CallLemmas
+pub mod TrimLemmas
+pub mod SumLemmas
+pub mod LeakLemmas

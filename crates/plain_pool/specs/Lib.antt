@@ -1,0 +1,5 @@
+pub mod Bins
+pub mod Marks
+pub mod Slabs
+pub mod Pool
+pub mod Held
