@@ -1,0 +1,8 @@
+pub mod Pieces
+pub mod Answers
+pub mod Moves
+pub mod Totals
+pub mod Entries
+pub mod Named
+pub mod Reports
+pub mod Writing

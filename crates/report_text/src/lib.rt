@@ -1,0 +1,25 @@
+//! The report of a replay: a text of one line for each thing that a trace's lines came to.
+//!
+//! A `Report` keeps the names of a trace's threads and the texts of its entries so far; `write_report` writes them, and
+//! then `end`. The report is this project's own; `docs/trace.md` has its form.
+//!
+//! Modules: `entry` (what a report tells), `report` (the report and its writing), `lines` (the text of an entry), and
+//! what lines are made of: `answers`, `moves`, `totals`, `pieces` and `rows`. `writing` writes a whole text to a sink.
+#![tactic(auto)]
+
+mod answers;
+mod entry;
+mod lines;
+mod moves;
+mod named;
+mod pieces;
+mod report;
+mod rows;
+#[cfg(test)]
+mod tests;
+mod totals;
+mod writing;
+
+pub use entry::{BinNumbers, Fate, ReportEntry};
+pub use report::{NoMemory, Report, write_report};
+pub use writing::write_all;

@@ -1,0 +1,189 @@
+//! The text of an entry.
+ghost use Rattle.std.specs.Prelude.{◌≡◌, ◌++◌, OnOk, codes, length};
+ghost use Rattle.report_text.specs.Pieces.{names_of, name_of};
+ghost use Rattle.report_text.specs.Answers.{answer_text};
+ghost use Rattle.report_text.specs.Entries.{limits_text, waits_text, fate_text, line_text, destroyed_text, region_text, region_left_text, entry_text};
+ghost use Rattle.report_text.specs.Named.{HasName, IsAnswerNamed, IsNamed};
+
+use crate::answers::add_answer;
+use crate::entry::{Fate, ReportEntry};
+use crate::moves::{add_keeper_move, add_move};
+use crate::pieces::add_name;
+use crate::totals::{add_cache, add_leak, add_total};
+use pool_types::{Answer, Awaited, RegionRec, Which};
+use std::io::{self, Write};
+use trace_reader::ThreadName;
+
+/// The limit that is out of its range.
+fn limits_words(limit: Which) -> &'static [u8]
+    ensures { result.now ≡ limits_text limit }
+{
+    match limit {
+        Which::Seats => b"bad-limits seats",
+        Which::Region => b"bad-limits region",
+        Which::Granularity => b"bad-limits granularity",
+        Which::Span => b"bad-limits span",
+    }
+}
+
+/// What the last turn waits for.
+fn waits_words(awaited: Awaited) -> &'static [u8]
+    ensures { result.now ≡ waits_text awaited }
+{
+    match awaited {
+        Awaited::BinLock(_) | Awaited::CacheLock(_) => b"waits lock",
+        Awaited::Office => b"waits office",
+        Awaited::Mail(_) => b"waits mail",
+        Awaited::Half(_) => b"waits half",
+    }
+}
+
+/// What became of a region.
+fn fate_word(fate: Fate) -> &'static [u8]
+    ensures { result.now ≡ fate_text fate }
+{
+    match fate {
+        Fate::Returned => b"returned",
+        Fate::Refused => b"refused",
+        Fate::Kept => b"kept",
+    }
+}
+
+/// Adds the line's number, and these words.
+fn add_line(text: &mut Vec<u8>, line: u32, words: &[u8]) -> io::Result<()>
+    ensures { OnOk result (text.new.items ≡ text.old.items ++ line_text line words.now) }
+{
+    write!(text, "{line} ")?;
+    text.write_all(words)?;
+    text.write_all(b"\n")
+}
+
+/// Adds that the last call of this seat's thread is not done.
+fn add_call_open(text: &mut Vec<u8>, names: &[ThreadName], line: u32, seat: u8) -> io::Result<()>
+    requires { HasName (length names.now) seat }
+    ensures { OnOk result (text.new.items ≡ text.old.items ++ line_text line (codes "call-open " ++ name_of (names_of names.now) seat)) }
+{
+    write!(text, "{line} call-open ")?;
+    add_name(text, names, seat)?;
+    text.write_all(b"\n")
+}
+
+/// Adds the answer that a line came to.
+fn add_answer_line(
+    text: &mut Vec<u8>,
+    names: &[ThreadName],
+    line: u32,
+    answer: Answer,
+) -> io::Result<()>
+    requires { IsAnswerNamed (length names.now) answer }
+    ensures { OnOk result (text.new.items ≡ text.old.items ++ line_text line (answer_text (names_of names.now) answer)) }
+{
+    write!(text, "{line} ")?;
+    add_answer(text, names, answer)?;
+    text.write_all(b"\n")
+}
+
+/// Adds how many regions had each fate, and how many objects were held.
+#[tactic(auto, unfolding(crate::specs::Entries::destroyed_text))]
+fn add_destroyed(
+    text: &mut Vec<u8>,
+    returned: u64,
+    refused: u64,
+    kept: u64,
+    objects: u64,
+) -> io::Result<()>
+    ensures { OnOk result (text.new.items ≡ text.old.items ++ destroyed_text returned refused kept objects) }
+{
+    write!(
+        text,
+        "destroyed returned {returned} refused {refused} kept {kept} objects {objects}"
+    )
+}
+
+/// Adds the line of a pool that was destroyed.
+fn add_destroyed_line(
+    text: &mut Vec<u8>,
+    line: u32,
+    returned: u64,
+    refused: u64,
+    kept: u64,
+    objects: u64,
+) -> io::Result<()>
+    ensures { OnOk result (text.new.items ≡ text.old.items ++ line_text line (destroyed_text returned refused kept objects)) }
+{
+    write!(text, "{line} ")?;
+    add_destroyed(text, returned, refused, kept, objects)?;
+    text.write_all(b"\n")
+}
+
+/// Adds a region's number, its base and its bytes.
+#[tactic(auto, unfolding(crate::specs::Entries::region_text))]
+fn add_region(text: &mut Vec<u8>, pool: u16, rec: RegionRec) -> io::Result<()>
+    ensures { OnOk result (text.new.items ≡ text.old.items ++ region_text pool rec) }
+{
+    write!(
+        text,
+        "region P{pool}.R{} {} {}",
+        rec.number, rec.region.base, rec.region.bytes
+    )
+}
+
+/// Adds the line of a region of a pool that was destroyed.
+#[tactic(auto, unfolding(crate::specs::Entries::region_left_text))]
+fn add_region_line(text: &mut Vec<u8>, pool: u16, rec: RegionRec, fate: Fate) -> io::Result<()>
+    ensures { OnOk result (text.new.items ≡ text.old.items ++ region_left_text pool rec fate) }
+{
+    add_region(text, pool, rec)?;
+    text.write_all(b" ")?;
+    text.write_all(fate_word(fate))?;
+    text.write_all(b"\n")
+}
+
+/// Adds the text of an entry.
+pub(crate) fn add_entry(
+    text: &mut Vec<u8>,
+    names: &[ThreadName],
+    entry: ReportEntry,
+) -> io::Result<()>
+    requires { IsNamed (length names.now) entry }
+    ensures { OnOk result (text.new.items ≡ text.old.items ++ entry_text (names_of names.now) entry) }
+{
+    match entry {
+        ReportEntry::Made { line } => add_line(text, line, b"made"),
+        ReportEntry::InvalidPolicy { line } => add_line(text, line, b"invalid-policy"),
+        ReportEntry::UnsupportedPolicy { line } => add_line(text, line, b"unsupported-policy"),
+        ReportEntry::BadLimits { line, limit } => add_line(text, line, limits_words(limit)),
+        ReportEntry::Begun { line } => add_line(text, line, b"begun"),
+        ReportEntry::Stepped { line } => add_line(text, line, b"stepped"),
+        ReportEntry::Waits { line, awaited } => add_line(text, line, waits_words(awaited)),
+        ReportEntry::Idle { line } => add_line(text, line, b"idle"),
+        ReportEntry::CallOpen { line } => add_line(text, line, b"call-open"),
+        ReportEntry::CallOpenOf { line, seat } => add_call_open(text, names, line, seat),
+        ReportEntry::Gone { line } => add_line(text, line, b"gone"),
+        ReportEntry::Reset { line } => add_line(text, line, b"reset"),
+        ReportEntry::Destroyed {
+            line,
+            returned,
+            refused,
+            kept,
+            objects,
+        } => add_destroyed_line(text, line, returned, refused, kept, objects),
+        ReportEntry::Answered { line, answer } => add_answer_line(text, names, line, answer),
+        ReportEntry::RegionLeft { pool, region, fate } => add_region_line(text, pool, region, fate),
+        ReportEntry::Moved {
+            number,
+            seat,
+            row,
+            part,
+        } => add_move(text, names, number, seat, row, part),
+        ReportEntry::KeeperMoved {
+            number,
+            seat,
+            row,
+            change,
+        } => add_keeper_move(text, names, number, seat, row, change),
+        ReportEntry::Total { pool, totals } => add_total(text, pool, totals),
+        ReportEntry::CacheBin { pool, bin } => add_cache(text, pool, bin),
+        ReportEntry::Leaked { leak } => add_leak(text, names, leak),
+    }
+}

@@ -1,0 +1,130 @@
+//! A report, and its writing. This project's own.
+ghost use Rattle.std.specs.Prelude.{◌≡◌, ◌++◌, ◌∷◌, [], List, OnOk, OnErr, IfOk, map, length};
+ghost use Rattle.std.specs.Io.KnownBytes.{Appends};
+ghost use Rattle.pool_types.specs.Causes.{Rose};
+ghost use Rattle.report_text.specs.declared.entry.ReportEntry.{ReportEntry};
+ghost use Rattle.report_text.specs.Pieces.{names_of};
+ghost use Rattle.report_text.specs.Entries.{entry_text, report_text};
+ghost use Rattle.report_text.specs.Named.{IsNamed};
+ghost use Rattle.report_text.specs.Reports.{ReportView, ended_text, HasEntries};
+ghost use Rattle.report_text.specs.Writing.{IsWrittenPart};
+
+use crate::entry::ReportEntry;
+use crate::lines::add_entry;
+use crate::writing::write_all;
+use arrayvec::ArrayVec;
+use pool_types::{Failed, Sink};
+use std::alloc::{AllocError, Global};
+use std::marker::Model;
+use trace_reader::{ThreadName, Trace};
+
+/// Memory ran out.
+#[derive(Clone, Copy, Debug, PartialEq, Eq)]
+pub struct NoMemory;
+
+/// The names of a trace's threads, and the texts of the entries so far.
+#[derive(Drop)]
+pub struct Report {
+    names: Vec<ThreadName>,
+    text: Vec<u8>,
+}
+
+impl Model for Report {
+    ghost use Rattle.report_text.specs.Pieces.{names_of};
+    ghost use Rattle.report_text.specs.Reports.{ReportView};
+
+    ghost Value = { ReportView };
+
+    ghost view = { λ s. record { names = names_of s.names.items; text = s.text.items } };
+}
+
+/// The same name again.
+fn duplicate(name: &ThreadName) -> ThreadName
+    ensures { result.bytes.items ≡ name.now.bytes.items }
+{
+    let Ok(bytes) = ArrayVec::try_from(name.bytes.as_slice()) else {
+        unreachable!();
+    };
+    ThreadName { bytes }
+}
+
+/// The same names again.
+fn duplicate_all(alloc: Global, names: &[ThreadName]) -> Result<Vec<ThreadName>, AllocError>
+    ensures { IfOk result (λ kept. names_of kept.items ≡ names_of names.now) }
+{
+    let mut kept = Vec::new(alloc);
+    for name in names {
+        kept.push(duplicate(name))?;
+    }
+    Ok(kept)
+}
+
+/// The text of an entry.
+fn text_of(alloc: Global, names: &[ThreadName], entry: ReportEntry) -> Result<Vec<u8>, NoMemory>
+    requires { IsNamed (length names.now) entry }
+    ensures { IfOk result (λ text. text.items ≡ entry_text (names_of names.now) entry) }
+{
+    let mut text = Vec::new(alloc);
+    match add_entry(&mut text, names, entry) {
+        Ok(()) => Ok(text),
+        Err(_) => Err(NoMemory),
+    }
+}
+
+impl Report {
+    ghost use Rattle.std.specs.Prelude.{◌≡◌, ◌++◌, ◌∷◌, [], List, OnOk, OnErr, IfOk, length};
+    ghost use Rattle.report_text.specs.declared.entry.ReportEntry.{ReportEntry};
+    ghost use Rattle.report_text.specs.Pieces.{names_of};
+    ghost use Rattle.report_text.specs.Entries.{entry_text};
+    ghost use Rattle.report_text.specs.Named.{IsNamed};
+    ghost use Rattle.report_text.specs.Reports.{HasEntries};
+
+    /// A report of no entry. It keeps the names of the trace's threads.
+    pub fn make(alloc: Global, trace: &Trace) -> Result<Report, NoMemory>
+        ensures empty { IfOk result (λ report. report ≡ record { names = names_of trace.now.names.items; text = [] }) }
+        ensures entries { IfOk result (λ report. HasEntries report []) }
+    {
+        match duplicate_all(alloc, trace.threads()) {
+            Ok(names) => Ok(Report {
+                names,
+                text: Vec::new(alloc),
+            }),
+            Err(AllocError) => Err(NoMemory),
+        }
+    }
+
+    /// How many threads it has names of. The seats in its entries are below that.
+    pub fn seats(&self) -> usize
+        ensures { result ≡ length self.now.names }
+    {
+        self.names.len()
+    }
+
+    /// Puts an entry at the end. The entry's text is made whole first, so that the report is as before where memory runs
+    /// out. Each seat in the entry is one of the trace's threads.
+    pub fn add(&mut self, alloc: Global, entry: ReportEntry) -> Result<(), NoMemory>
+        requires { IsNamed (length self.old.names) entry }
+        ensures added { OnOk result (self.new ≡ record { names = self.old.names; text = self.old.text ++ entry_text self.old.names entry }) }
+        ensures entries { OnOk result ((entries : List ReportEntry) → HasEntries self.old entries → HasEntries self.new (entries ++ entry ∷ [])) }
+        ensures kept { OnErr result (self.new ≡ self.old) }
+    {
+        let text = text_of(alloc, self.names.as_slice(), entry)?;
+        match self.text.extend_from_slice(text.as_slice()) {
+            Ok(()) => Ok(()),
+            Err(AllocError) => Err(NoMemory),
+        }
+    }
+}
+
+/// Writes the texts of a report's entries in their order, and then `end`. It takes no memory and writes on after no
+/// fault: where a write fails, which comes only where the sink's count of faults rose, the front of that is written.
+pub fn write_report<K: Sink>(sink: &mut K, report: &Report) -> Result<(), Failed>
+    ensures whole { OnOk result (Appends (K.taken sink.old) (K.taken sink.new) (ended_text report.now)) }
+    ensures part { IsWrittenPart (K.taken sink.old) (K.taken sink.new) (ended_text report.now) }
+    ensures entries { (entries : List ReportEntry) → HasEntries report.now entries → ended_text report.now ≡ report_text report.now.names entries }
+    ensures fault { OnErr result (Rose (K.faults sink.old) (K.faults sink.new)) }
+    ensures kept { OnOk result (K.faults sink.new ≡ K.faults sink.old) }
+{
+    write_all(sink, report.text.as_slice())?;
+    write_all(sink, b"end\n")
+}
