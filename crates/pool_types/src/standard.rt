@@ -1,7 +1,10 @@
 //! Adapters over standard input and output, or any reader and writer of std. A source tells the bytes that its reader
 //! tells, and standard input tells none; a sink tells none, since a flush that fails leaves open what was taken. They are
 //! the trusted edge, a few lines each. This project's own.
-ghost use Rattle.std.specs.Prelude.{◌≡◌, None, IfSome, length, ◌<◌, ◌≤◌};
+ghost use Rattle.std.specs.Prelude.{◌≡◌, None, IfSome, IfOk, length, take, ◌<◌, ◌≤◌};
+ghost use Rattle.std.specs.Io.{WritesAtMost};
+ghost use Rattle.std.specs.Io.KnownBytes.{Appends, WriteAppends};
+ghost use Rattle.pool_types.specs.Causes.{HasCause};
 
 use crate::outside::{Failed, Sink, Source};
 use std::io::{Read, Write};
@@ -76,6 +79,7 @@ impl<W: Write> StandardSink<W> {
 fn write_through<W: Write>(inner: &mut W, piece: &[u8]) -> Option<usize>
     ensures bound { IfSome result (λ count. count ≤ length piece.now) }
     ensures progress { IfSome result (λ count. 0 < length piece.now → 1 ≤ count) }
+    ensures bytes { IfSome result (λ count. Appends (W.contents inner.old) (W.contents inner.new) (take count piece.now)) }
 {
     let count = inner.write(piece).ok()?;
     if count == 0 && !piece.is_empty() {
@@ -90,7 +94,13 @@ impl<W: Write> Sink for StandardSink<W> {
 
     ghost faults = { λ s. s.1 };
 
-    fn write(&mut self, piece: &[u8]) -> Result<usize, Failed> {
+    fn write(&mut self, piece: &[u8]) -> Result<usize, Failed>
+        ensures bound { WritesAtMost result piece.now }
+        ensures progress { IfOk result (λ count. 0 < length piece.now → 1 ≤ count) }
+        ensures bytes { WriteAppends None None result piece.now }
+        ensures cause { HasCause self.old.1 self.new.1 result }
+        ensures written { IfOk result (λ count. Appends (W.contents self.old.0) (W.contents self.new.0) (take count piece.now)) }
+    {
         match write_through(&mut self.inner, piece) {
             Some(count) => Ok(count),
             None => {

@@ -1,8 +1,10 @@
 //! What no clause says: that the calls succeed, at the limits too.
 use crate::{
     CreateError, Limits, MemorySink, MemorySource, Policy, Raw, Region, ScriptedRaw, Sink, Source,
-    Which, check,
+    StandardSink, StandardSource, Which, check,
 };
+use std::alloc::AllocError;
+use std::io::{self, Read, Write};
 use std::test::Fail;
 
 #[test]
@@ -134,5 +136,63 @@ fn a_making_is_refused_for_its_first_cause(rt: HostRuntime) {
     ];
     for (policy, limits, want) in cases {
         assert_eq!(rt; check(&policy, &limits), want);
+    }
+}
+
+/// Fails at its first read and at its first write, and at its second flush.
+#[derive(Drop)]
+struct Stumbling {
+    calls: u32,
+    flushes: u32,
+}
+
+impl Read for Stumbling {
+    fn read(&mut self, buf: &mut [u8]) -> io::Result<usize> {
+        self.calls = self.calls.saturating_add(1);
+        if self.calls == 1 {
+            return Err(io::Error::from(AllocError));
+        }
+        Ok(buf.len().min(1))
+    }
+}
+
+impl Write for Stumbling {
+    fn write(&mut self, piece: &[u8]) -> io::Result<usize> {
+        self.calls = self.calls.saturating_add(1);
+        if self.calls == 1 {
+            return Err(io::Error::from(AllocError));
+        }
+        Ok(piece.len().min(2))
+    }
+
+    fn flush(&mut self) -> io::Result<()> {
+        self.flushes = self.flushes.saturating_add(1);
+        if self.flushes == 2 {
+            return Err(io::Error::from(AllocError));
+        }
+        Ok(())
+    }
+}
+
+#[test]
+fn a_failed_read_of_the_system_is_not_tried_again(rt: HostRuntime) {
+    let mut source = StandardSource::of(Stumbling {
+        calls: 0,
+        flushes: 0,
+    });
+    let mut buf = [0u8; 8];
+    for want in [None, Some(1)] {
+        assert_eq!(rt; source.read(&mut buf).ok(), want);
+    }
+}
+
+#[test]
+fn a_failed_write_or_flush_of_the_system_is_not_passed_over(rt: HostRuntime) {
+    let mut sink = StandardSink::of(Stumbling {
+        calls: 0,
+        flushes: 0,
+    });
+    for want in [None, Some(2), None, Some(2)] {
+        assert_eq!(rt; sink.write(b"abc").ok(), want);
     }
 }
