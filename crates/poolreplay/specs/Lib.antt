@@ -1,10 +1,5 @@
-pub mod Counts
-pub mod Fresh
-pub mod Journal
-pub mod Leaks
-pub mod Lists
-pub mod Held
+pub mod Entries
+pub mod Names
 pub mod Replay
-pub mod Report
 pub mod Running
 pub mod Streams

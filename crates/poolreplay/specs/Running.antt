@@ -1,35 +1,151 @@
--- What is still to be written while the calls of a trace are run.
-use Rattle.std.specs.Prelude.{ℕ, ◌≤◌, List, ◌++◌}
-use Rattle.trace_reader.specs.declared.first.FirstAct.{FirstAct}
-use Rattle.trace_reader.specs.declared.first.FirstAct.TheVariants.{Threads, Pool, Malloc}
-use Rattle.poolreplay.specs.Lists.{Lists, no_lists, lists_after, answers_to}
-use Rattle.poolreplay.specs.Held.{totals_at, leaks_at}
-use Rattle.poolreplay.specs.Report.{sizes_of, calls_text, held_text, pool_text, report_text}
+-- What the lines of a trace make of a run, one after another.
+use Prim.Native.Nat.{zero, suc}
+use Rattle.std.specs.Prelude.{◌≡◌, ℕ, ◌≤◌, ◌<◌, List, [], ◌∷◌, ◌++◌, map, length, Some, None, Ok, Err}
+use Rattle.std.specs.declared.option.Option.{Option}
+use Rattle.std.specs.HashMap.{get_by}
+use Rattle.std.specs.Str.{bytes_eq}
+use Rattle.pool_types.specs.declared.policy.Which.TheVariants.{Seats}
+use Rattle.pool_types.specs.declared.policy.CreateError.TheVariants as refusal
+use Rattle.pool_types.specs.declared.values.Leak.{Leak}
+use Rattle.pool_types.specs.declared.values.Place.{Place}
+use Rattle.trace_reader.specs.declared.acts.TraceCall.{TraceCall}
+use Rattle.trace_reader.specs.declared.acts.Act.{Act}
+use Rattle.trace_reader.specs.declared.acts.Act.TheVariants as act
+use Rattle.trace_reader.specs.declared.acts.TraceLine.{TraceLine}
+use Rattle.trace_reader.specs.declared.trace.Trace.{Trace}
+use Rattle.report_text.specs.declared.entry.ReportEntry.{ReportEntry}
+use Rattle.report_text.specs.declared.entry.ReportEntry.TheVariants.{Gone, Answered, Total}
+use Rattle.report_text.specs.Reports.{ReportView}
+use Rattle.report_text.specs.Named.{IsNamed}
+use Rattle.report_text.specs.Pieces.{names_of}
+use Rattle.report_text.specs.Entries.{entry_text, entries_text}
+use Rattle.plain_lists.specs.Lists.{Lists, no_lists}
+use Rattle.plain_lists.specs.Held.{totals_at, leaks_at}
+use Rattle.plain_lists.specs.Whole.{whole, IsServed}
+use Rattle.plain_pool.specs.declared.arrays.PoolArrays.{PoolArrays}
+use Rattle.plain_pool.specs.Pool.{Stands}
+use Rattle.poolreplay.specs.declared.places.Places.{Places}
+use Rattle.poolreplay.specs.Names.{Names, no_names, request_of, names_after, call_at}
+use Rattle.poolreplay.specs.Entries.{Judged, made_entry, listed, leaked}
 
--- a size that a line asks for has a class
-abbrev pub IsSmall : FirstAct → Type 0
-IsSmall (Threads thread) = Unit {0}
-IsSmall Pool = Unit {0}
-IsSmall (Malloc bound size) = size ≤ 8128
+-- how the making of a pool for so many threads is judged
+abbrev pub judged : ℕ → Judged
+judged zero = Err (refusal.BadLimits Seats)
+judged (suc threads) = Ok tt
 
--- the text once these calls are run too, the first of which has this line
-abbrev pub text_due : List ℕ → List ℕ → ℕ → Lists → List FirstAct → List ℕ
-text_due text name line lists acts = text ++ calls_text name line acts (answers_to lists (sizes_of acts))
+-- what a replay has between its lines: the lists of its pool, once that is made, and what the names stand for
+pub record Going : Type 0 where
+  pub lists : Option Lists
+  pub names : Names
 
--- the lists once these calls are run too
-abbrev pub lists_due : Lists → List FirstAct → Lists
-lists_due lists acts = lists_after lists (sizes_of acts)
+-- no line was run yet
+abbrev pub no_line : Going
+no_line = record { lists = None; names = no_names }
 
--- what the lists hold, as text
-abbrev pub lists_text : List ℕ → Lists → List ℕ
-lists_text name lists = held_text name (totals_at lists) (leaks_at lists)
+-- the pool's lists after its making was judged so
+abbrev pub lists_made : Judged → Option Lists
+lists_made (Ok done) = Some no_lists
+lists_made (Err refusal) = None
 
--- what the lines behind the first report, run from no lists on
-abbrev pub pool_run_text : List ℕ → List FirstAct → List ℕ
-pool_run_text name acts =
-    pool_text name acts (answers_to no_lists (sizes_of acts)) (totals_at (lists_due no_lists acts)) (leaks_at (lists_due no_lists acts))
+-- after a call, where the names stand for these and the pool has these lists
+abbrev pub after_call : Names → TraceCall → Option Lists → Going
+after_call names call None = record { lists = None; names = names }
+after_call names call (Some lists) = record {
+  lists = Some (whole lists (request_of names call)).lists;
+  names = names_after names call (whole lists (request_of names call)).answer;
+}
 
--- the report of a trace that is run from no lists on
-abbrev pub run_text : List FirstAct → List ℕ
-run_text acts =
-    report_text acts (answers_to no_lists (sizes_of acts)) (totals_at (lists_after no_lists (sizes_of acts))) (leaks_at (lists_after no_lists (sizes_of acts)))
+-- what a call reports
+abbrev pub call_entry : ℕ → Names → TraceCall → Option Lists → ReportEntry
+call_entry line names call None = Gone line
+call_entry line names call (Some lists) = Answered line (whole lists (request_of names call)).answer
+
+-- after a line, where there are so many threads
+abbrev pub after_line : ℕ → Going → Act → Going
+after_line threads going (act.Pool number options) = record { lists = lists_made (judged threads); names = going.names }
+after_line threads going (act.Call thread number call) = after_call going.names call going.lists
+after_line threads going other = going
+
+-- what a line reports
+abbrev pub entry_at : ℕ → Going → ℕ → Act → Option ReportEntry
+entry_at threads going line (act.Pool number options) = made_entry line (judged threads)
+entry_at threads going line (act.Call thread number call) = Some (call_entry line going.names call going.lists)
+entry_at threads going line other = None
+
+-- what the lines report, one after another
+abbrev pub run_entries : ℕ → Going → List TraceLine → List ReportEntry
+run_entries threads going [] = []
+run_entries threads going (line ∷ lines) = listed (entry_at threads going line.line line.act) (run_entries threads (after_line threads going line.act) lines)
+
+-- after all of them
+abbrev pub after_lines : ℕ → Going → List TraceLine → Going
+after_lines threads going [] = going
+after_lines threads going (line ∷ lines) = after_lines threads (after_line threads going line.act) lines
+
+-- what the pool reports at the end
+abbrev pub held_entries : Option Lists → List ReportEntry
+held_entries None = []
+held_entries (Some lists) = Total 0 (totals_at lists) ∷ map leaked (leaks_at lists)
+
+-- a report with one entry more, if there is one
+abbrev pub with_entry : ReportView → Option ReportEntry → ReportView
+with_entry report None = report
+with_entry report (Some entry) = record { names = report.names; text = report.text ++ entry_text report.names entry }
+
+-- a report with these entries more
+abbrev pub with_entries : ReportView → List ReportEntry → ReportView
+with_entries report entries = record { names = report.names; text = report.text ++ entries_text report.names entries }
+
+-- the report of a whole run
+abbrev pub run_report : Trace → ReportView
+run_report trace =
+    with_entries
+    (with_entries (record { names = names_of trace.names.items; text = [] }) (run_entries (length trace.names.items) no_line trace.lines.items))
+    (held_entries (after_lines (length trace.names.items) no_line trace.lines.items).lists)
+
+-- what is kept of a name stands for a place or null; a name of which nothing is kept stands for null
+abbrev pub place_kept : Option (Option Place) → Option Place
+place_kept (Some place) = place
+place_kept None = None
+
+-- what the names stand for of which these are kept
+abbrev pub names_kept : Places → Names
+names_kept places = λ word. place_kept (get_by (λ key. bytes_eq word key.bytes.items) places.kept)
+
+-- the pool stands for the lists, or there is neither
+abbrev pub StandsFor : Option PoolArrays → Option Lists → Type 0
+StandsFor None None = Unit {0}
+StandsFor None (Some lists) = ⊥
+StandsFor (Some pool) None = ⊥
+StandsFor (Some pool) (Some lists) = Stands pool lists
+
+-- this is what a replay has
+pub record IsAt (pool : Option PoolArrays) (places : Places) (going : Going) : Type 0 where
+  pub stands : StandsFor pool going.lists
+  pub names : (word : List ℕ) → names_kept places word ≡ going.names word
+
+-- what a call asks is served
+abbrev pub AsksServed : Option TraceCall → Type 0
+AsksServed None = Unit {0}
+AsksServed (Some call) = IsServed (request_of no_names call)
+
+abbrev pub IsServedLine : TraceLine → Type 0
+IsServedLine line = AsksServed (call_at line.act)
+
+-- a pool that was made granted no more than so many objects
+abbrev pub HasGranted : ℕ → Option Lists → Type 0
+HasGranted most None = Unit {0}
+HasGranted most (Some lists) = lists.granted ≤ most
+
+-- a pool that was made has a thread
+abbrev pub HasThread : ℕ → Option Lists → Type 0
+HasThread threads None = Unit {0}
+HasThread threads (Some lists) = 0 < threads
+
+-- each seat in the entry is that of a thread
+abbrev pub IsEntryNamed : ℕ → Option ReportEntry → Type 0
+IsEntryNamed threads None = Unit {0}
+IsEntryNamed threads (Some entry) = IsNamed threads entry
+
+abbrev pub IsLeakNamed : ℕ → Leak → Type 0
+IsLeakNamed threads leak = leak.grant.seat < threads

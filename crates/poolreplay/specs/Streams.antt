@@ -1,7 +1,7 @@
--- What was read from a source and written to a sink, where these tell their bytes.
-use Rattle.std.specs.Prelude.{◌≡◌, ℕ, ◌≤◌, List, length, take}
+-- What was read from a source, where it tells its bytes.
+use Rattle.std.specs.Prelude.{◌≡◌, ℕ, ◌≤◌, List, length}
 use Rattle.std.specs.declared.option.Option.{Option}
-use Rattle.std.specs.Io.KnownBytes.{Appends, Consumes, IsAtEnd}
+use Rattle.std.specs.Io.KnownBytes.{Consumes, IsAtEnd}
 
 -- these bytes are all that there was, and no more than a trace may have
 pub record IsReadWhole (old new : Option (List ℕ)) (bytes : List ℕ) : Type 0 where
@@ -12,7 +12,3 @@ pub record IsReadWhole (old new : Option (List ℕ)) (bytes : List ℕ) : Type 0
 -- so many bytes were taken
 abbrev pub IsReadPast : Option (List ℕ) → Option (List ℕ) → ℕ → Type 0
 IsReadPast old new count = (bytes : List ℕ) × Consumes old new bytes × (length bytes ≡ count)
-
--- some front of the text was taken
-abbrev pub IsWrittenPart : Option (List ℕ) → Option (List ℕ) → List ℕ → Type 0
-IsWrittenPart old new text = (count : ℕ) × (count ≤ length text) × Appends old new (take count text)

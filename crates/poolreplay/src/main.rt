@@ -1,12 +1,13 @@
 //! Replays a trace of pool calls from standard input, and reports on standard output what each call answered.
 //!
-//! Modules: `heap` (a pool as plain lists), `replay` (from the command's words and the trace's bytes to the status and the bytes that are written),
-//! `report` (the text of a trace's report), `streams` (reading a source to its end, and writing a whole text).
+//! Modules: `replay` (from the command's words and the trace's bytes to the status and the bytes that are written), `run`
+//! (the lines of a trace, one after another), `places` (what the names stand for, and what the calls in the lines ask) and
+//! `streams` (reading a source to its end).
 #![tactic(auto)]
 
-mod heap;
+mod places;
 mod replay;
-mod report;
+mod run;
 mod streams;
 #[cfg(test)]
 mod tests;

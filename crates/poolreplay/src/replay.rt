@@ -1,17 +1,19 @@
 //! The whole of a replay: from the words and the bytes that come in to the bytes that go out. This project's own.
-ghost use Rattle.std.specs.Prelude.{◌≡◌, ◌≢◌, ℕ, List, [], map, string_bytes, IfOk, true, false, codes};
+ghost use Rattle.std.specs.Prelude.{◌≡◌, ◌≢◌, ◌<◌, ◌⊎◌, ℕ, List, [], length, map, string_bytes, Some, Ok, IfOk, OnOk, OnErr, true, false, codes};
 ghost use Rattle.std.specs.Io.KnownBytes.{Appends};
 ghost use Rattle.pool_types.specs.Causes.{Rose};
-ghost use Rattle.poolreplay.specs.Streams.{IsWrittenPart};
-ghost use Rattle.poolreplay.specs.Replay.{IsCommand, IsDue, IsReply, refused_text, status_number};
+ghost use Rattle.report_text.specs.Writing.{IsWrittenPart};
+ghost use Rattle.trace_reader.specs.Text.{ReadsTrace};
+ghost use Rattle.poolreplay.specs.Replay.{ComesBut, IsCommand, IsDue, IsReply, IsWanted, output_text, refused_text, status_number};
 ghost use Rattle.poolreplay.specs.declared.replay.Status.{Status};
 
-use crate::report::report;
-use crate::streams::{ReadError, read_all, write_all};
-use pool_types::{Sink, Source};
+use crate::run::run_trace;
+use crate::streams::{ReadError, read_all};
+use pool_types::{Failed, Sink, Source};
+use report_text::{Report, write_all, write_report};
 use std::alloc::Global;
 use std::io::{self, Write};
-use trace_reader::{TraceError, TraceRefused, read_first};
+use trace_reader::{Forms, Trace, TraceError, TraceRefused, read_trace};
 
 /// How a replay ended.
 #[derive(Clone, Copy, Debug, PartialEq, Eq)]
@@ -49,11 +51,18 @@ impl Status {
     }
 }
 
-/// A status, and the text that is due with it.
+/// What is to be written: a text, or a report and then `end`.
+#[derive(Drop)]
+pub enum Output {
+    Words(Vec<u8>),
+    Whole(Report),
+}
+
+/// A status, and what is due with it.
 #[derive(Drop)]
 struct Reply {
     status: Status,
-    text: Vec<u8>,
+    output: Output,
 }
 
 /// Whether the words are the one command line.
@@ -96,54 +105,67 @@ fn bad_words(alloc: Global) -> io::Result<Vec<u8>>
 /// A status with no text.
 fn silent(alloc: Global, status: Status) -> Reply
     ensures status { result.status ≡ status }
-    ensures text { result.text.items ≡ [] }
+    ensures text { output_text result.output ≡ [] }
 {
     Reply {
         status,
-        text: Vec::new(alloc),
+        output: Output::Words(Vec::new(alloc)),
+    }
+}
+
+/// The status with this text, or that memory ran out.
+fn spoken(alloc: Global, status: Status, text: io::Result<Vec<u8>>) -> Reply
+    ensures ok { IfOk text (λ words. (result.status ≡ status) × (output_text result.output ≡ words.items)) }
+    ensures err { OnErr text ((result.status ≡ Status.NoMemory) × (output_text result.output ≡ [])) }
+{
+    match text {
+        Ok(words) => Reply {
+            status,
+            output: Output::Words(words),
+        },
+        Err(_) => silent(alloc, Status::NoMemory),
+    }
+}
+
+/// The status and the text that are due for a trace that was read.
+fn reply_to_trace(alloc: Global, bytes: &[u8], trace: &Trace) -> Reply
+    requires { ReadsTrace Forms.Replay bytes.now (Ok trace.now) }
+    ensures { IsReply bytes.now result.status (output_text result.output) }
+{
+    match run_trace(alloc, trace) {
+        Ok(report) => Reply {
+            status: Status::Done,
+            output: Output::Whole(report),
+        },
+        Err(_) => silent(alloc, Status::NoMemory),
     }
 }
 
 /// The status and the text that are due for bytes that were read.
 fn reply_to(alloc: Global, bytes: &[u8]) -> Reply
-    ensures { IsReply bytes.now result.status result.text.items }
+    ensures { IsReply bytes.now result.status (output_text result.output) }
 {
-    match read_first(alloc, bytes) {
-        Ok(acts) => match report(alloc, acts.as_slice()) {
-            Ok(text) => Reply {
-                status: Status::Done,
-                text,
-            },
-            Err(_) => silent(alloc, Status::NoMemory),
-        },
-        Err(TraceRefused::Bad(error)) => match refused(alloc, error) {
-            Ok(text) => Reply {
-                status: Status::BadTrace {
-                    line: error.line,
-                    kind: error.kind,
-                },
-                text,
-            },
-            Err(_) => silent(alloc, Status::NoMemory),
-        },
+    match read_trace(alloc, bytes, Forms::Replay) {
+        Ok(trace) => reply_to_trace(alloc, bytes, &trace),
+        Err(TraceRefused::Bad(error)) => {
+            let status = Status::BadTrace {
+                line: error.line,
+                kind: error.kind,
+            };
+            spoken(alloc, status, refused(alloc, error))
+        }
         Err(TraceRefused::NoMemory) => silent(alloc, Status::NoMemory),
     }
 }
 
 /// The status and the text that are due. For words that are no command line nothing is read.
 fn due<S: Source>(alloc: Global, words: &[String], source: &mut S) -> Reply
-    ensures due { IsDue (map string_bytes words.now) (S.left source.old) (S.left source.new) result.status result.text.items }
+    ensures due { IsDue (map string_bytes words.now) (S.left source.old) (S.left source.new) result.status (output_text result.output) }
     ensures fault { result.status ≡ Status.ReadFault → Rose (S.faults source.old) (S.faults source.new) }
     ensures kept { result.status ≢ Status.ReadFault → S.faults source.new ≡ S.faults source.old }
 {
     if !is_command(words) {
-        return match bad_words(alloc) {
-            Ok(text) => Reply {
-                status: Status::BadWords,
-                text,
-            },
-            Err(_) => silent(alloc, Status::NoMemory),
-        };
+        return spoken(alloc, Status::BadWords, bad_words(alloc));
     }
     match read_all(alloc, source) {
         Ok(bytes) => reply_to(alloc, bytes.as_slice()),
@@ -153,12 +175,27 @@ fn due<S: Source>(alloc: Global, words: &[String], source: &mut S) -> Reply
     }
 }
 
+/// Writes what is to be written.
+fn write_output<K: Sink>(sink: &mut K, output: &Output) -> Result<(), Failed>
+    ensures whole { OnOk result (Appends (K.taken sink.old) (K.taken sink.new) (output_text output.now)) }
+    ensures part { IsWrittenPart (K.taken sink.old) (K.taken sink.new) (output_text output.now) }
+    ensures fault { OnErr result (Rose (K.faults sink.old) (K.faults sink.new)) }
+    ensures some { OnErr result (0 < length (output_text output.now)) }
+    ensures kept { OnOk result (K.faults sink.new ≡ K.faults sink.old) }
+{
+    match output {
+        Output::Words(text) => write_all(sink, text.as_slice()),
+        Output::Whole(report) => write_report(sink, report),
+    }
+}
+
 /// Replays the trace that the source holds, and writes its report.
 ///
 /// The words are those after the program's name; the one command is `replay`. The trace is read and checked whole
 /// before it is run, and the report is made whole before it is written. `ReadFault` and `WriteFault` come only where
 /// the count of faults of the source or of the sink rose, and each other status only where both counts stayed, so no
-/// fault is passed over. After `WriteFault` the front of the text that was due with some status is written.
+/// fault is passed over. After `WriteFault` the front of the text that was due with some status is written. The status
+/// that the words and the bytes want comes, but for want of memory and for such faults.
 pub fn replay<S: Source, K: Sink>(
     alloc: Global,
     words: &[String],
@@ -167,13 +204,15 @@ pub fn replay<S: Source, K: Sink>(
 ) -> Status
     ensures written { result ≢ Status.WriteFault → (text : List ℕ) × IsDue (map string_bytes words.now) (S.left source.old) (S.left source.new) result text × Appends (K.taken sink.old) (K.taken sink.new) text }
     ensures part { result ≡ Status.WriteFault → (status : Status) × (text : List ℕ) × IsDue (map string_bytes words.now) (S.left source.old) (S.left source.new) status text × IsWrittenPart (K.taken sink.old) (K.taken sink.new) text }
+    ensures complete { (bytes : List ℕ) (status : Status) → S.left source.old ≡ Some bytes → IsWanted (map string_bytes words.now) bytes status → ComesBut status result (S.faults source.old) (S.faults source.new) (K.faults sink.old) (K.faults sink.new) }
+    ensures refused { (IsCommand (map string_bytes words.now) → ⊥) → (result ≡ Status.BadWords) ⊎ (result ≡ Status.NoMemory) ⊎ (result ≡ Status.WriteFault) }
     ensures read { result ≡ Status.ReadFault → Rose (S.faults source.old) (S.faults source.new) }
     ensures read_on { result ≢ Status.ReadFault → S.faults source.new ≡ S.faults source.old }
     ensures write { result ≡ Status.WriteFault → Rose (K.faults sink.old) (K.faults sink.new) }
     ensures written_on { result ≢ Status.WriteFault → K.faults sink.new ≡ K.faults sink.old }
 {
     let reply = due(alloc, words, source);
-    match write_all(sink, reply.text.as_slice()) {
+    match write_output(sink, &reply.output) {
         Ok(()) => reply.status,
         Err(_) => Status::WriteFault,
     }

@@ -1,10 +1,9 @@
-//! All that a source has, and a whole text to a sink.
-ghost use Rattle.std.specs.Prelude.{◌≡◌, ◌≢◌, ◌≤◌, ◌<◌, ◌+◌, ◌-◌, ℕ, List, length, take, drop, vec_len, IfOk, OnOk, OnErr, IsErrOf};
-ghost use Rattle.std.specs.Io.KnownBytes.{Appends};
+//! All that a source has.
+ghost use Rattle.std.specs.Prelude.{◌≡◌, ◌≢◌, ◌+◌, IfOk, IsErrOf};
 ghost use Rattle.pool_types.specs.Causes.{Rose};
-ghost use Rattle.poolreplay.specs.Streams.{IsReadWhole, IsReadPast, IsWrittenPart};
+ghost use Rattle.poolreplay.specs.Streams.{IsReadWhole, IsReadPast};
 
-use pool_types::{Failed, Sink, Source};
+use pool_types::Source;
 use std::alloc::Global;
 
 /// The most bytes that a trace may have.
@@ -51,26 +50,4 @@ pub fn read_all<S: Source>(alloc: Global, source: &mut S) -> Result<Vec<u8>, Rea
         }
     }
     Err(ReadError::TooLong)
-}
-
-/// Writes the whole text. It writes on after no fault.
-pub fn write_all<K: Sink>(sink: &mut K, text: &[u8]) -> Result<(), Failed>
-    ensures whole { OnOk result (Appends (K.taken sink.old) (K.taken sink.new) text.now) }
-    ensures part { IsWrittenPart (K.taken sink.old) (K.taken sink.new) text.now }
-    ensures fault { OnErr result (Rose (K.faults sink.old) (K.faults sink.new)) }
-    ensures some { OnErr result (0 < length text.now) }
-    ensures kept { OnOk result (K.faults sink.new ≡ K.faults sink.old) }
-{
-    let mut at = 0;
-    while at < text.len() {
-        match sink.write(&text[at..]) {
-            Ok(count) => {
-                at += count;
-            }
-            Err(error) => {
-                return Err(error);
-            }
-        }
-    }
-    Ok(())
 }

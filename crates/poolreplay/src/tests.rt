@@ -2,10 +2,13 @@
 //! description in `docs/trace.md`.
 ghost use Rattle.std.specs.Prelude.{◌≤◌};
 
+mod frees;
+
 use crate::replay::{Status, replay};
 use pool_types::{MemorySink, MemorySource};
 use std::alloc::{AllocError, Global};
 use std::io::{self, Write};
+use std::process::Abort;
 use std::test::Fail;
 
 /// The report of one malloc of 100 bytes.
@@ -139,35 +142,148 @@ fn a_pool_whose_slabs_are_all_in_use_answers_null(rt: HostRuntime) -> Result<(),
     Ok(())
 }
 
+/// The report of a pool that is not made, for it would have no thread.
+const NO_THREAD: &str = "1 bad-limits seats\nend\n";
+
+#[test]
+fn a_pool_without_threads_is_not_made(rt: HostRuntime) -> Result<(), Fail> {
+    let alloc = rt.alloc();
+    let source = source_of(alloc, b"pool P0 fixed\n", 4096)?;
+    let (status, text) = run(alloc, &[], source, sink_of(alloc, 4096, &[])?)?;
+    assert_eq!(rt; status, Status::Done);
+    assert_eq!(rt; text.as_slice(), NO_THREAD.as_bytes());
+    assert_eq!(rt; status.number(), 0);
+    Ok(())
+}
+
+/// The report of one malloc of 100 bytes in line 6, behind the pool in line 4.
+const SKIPPED_BEFORE: &str = "4 made\n6 got P0.R0+16272 112 A#1\n\
+    total P0 regions 1 bytes 1048576 waste 0 head 144 rest 16128 private 0 public 0 object 112 \
+    large-head 0 slab-cache 0 cached 0 bin 1032192 queue 0 hand 0\nleak P0.R0+16272 112 A#1\nend\n";
+
+#[test]
+fn lines_that_are_skipped_are_counted(rt: HostRuntime) -> Result<(), Fail> {
+    let alloc = rt.alloc();
+    let cases = [
+        ("\n", "end\n"),
+        ("#\n\n# threads A\n", "end\n"),
+        (
+            "# one thread\nthreads A\n\npool P0 fixed\n#A P0 x = malloc 1\nA P0 x = malloc 100\n\n",
+            SKIPPED_BEFORE,
+        ),
+        ("\npool P0 fixed\n", "2 bad-limits seats\nend\n"),
+    ];
+    for (trace, want) in cases {
+        let source = source_of(alloc, trace.as_bytes(), 4096)?;
+        let (status, text) = run(alloc, &[], source, sink_of(alloc, 4096, &[])?)?;
+        assert_eq!(rt; status, Status::Done, "at {trace}");
+        assert_eq!(rt; text.as_slice(), want.as_bytes(), "at {trace}");
+    }
+    Ok(())
+}
+
+/// Replays the trace, and sees that this line of it is refused as of this kind.
+fn see_refused(
+    rt: &impl Abort,
+    alloc: Global,
+    trace: &str,
+    line: u32,
+    kind: u8,
+) -> Result<(), Fail> {
+    let source = source_of(alloc, trace.as_bytes(), 4096)?;
+    let (status, text) = run(alloc, &[], source, sink_of(alloc, 4096, &[])?)?;
+    let want = format!(in alloc; "bad trace line {line} kind {kind}\n")?;
+    assert_eq!(rt; status, Status::BadTrace { line, kind }, "at {trace}");
+    assert_eq!(rt; text.as_slice(), want.as_bytes(), "at {trace}");
+    Ok(())
+}
+
 #[test]
 fn the_first_line_that_is_not_served_is_refused(rt: HostRuntime) -> Result<(), Fail> {
     let alloc = rt.alloc();
     let cases = [
-        ("threads a\n", 1),
-        ("threads A B\n", 1),
-        ("\n", 1),
-        ("# no comment yet\n", 1),
-        ("pool P0 fixed\n", 1),
-        ("threads A\npool P0\n", 2),
-        ("threads A\npool P1 fixed\n", 2),
-        ("threads A\npool P0 fixed\nB P0 x = malloc 1\n", 3),
-        ("threads A\npool P0 fixed\nA P0 null = malloc 1\n", 3),
-        ("threads A\npool P0 fixed\nA P0 x = malloc 8129\n", 3),
-        ("threads A\npool P0 fixed\nA P0 x = malloc 01\n", 3),
-        ("threads A\npool P0 fixed\nA P0 free x\n", 3),
-        ("threads A\npool P0 fixed\nA P0 x = malloc 100", 3),
-        (
-            "threads A\npool P0 fixed\nA P0 x = malloc 1\nA P0 x = malloc 1\n",
-            4,
-        ),
+        ("threads a\n", 1, 1),
+        ("threads A B\n", 1, 12),
+        ("threads A\npool P0\n", 2, 12),
+        ("threads A\npool P1 fixed\n", 2, 7),
+        ("threads A\npool P0 fixed\nB P0 x = malloc 1\n", 3, 4),
+        ("threads A\npool P0 fixed\nA P0 null = malloc 1\n", 3, 1),
+        ("threads A\npool P0 fixed\nA P0 x = malloc 8129\n", 3, 12),
+        ("threads A\npool P0 fixed\nA P0 x = malloc 01\n", 3, 2),
+        ("threads A\npool P0 fixed\nA P0 free x\n", 3, 5),
+        ("threads A\npool P0 fixed\nA P0 x = realloc null 8\n", 3, 12),
+        ("threads A\npool P0 fixed\nA P0 exit x\n", 3, 12),
+        ("threads A\npool P0 fixed\npool P1\n", 3, 12),
+        ("threads A\npool P0 fixed\nA P0 x = malloc 100", 3, 11),
+        ("# a comment", 1, 11),
     ];
-    for (trace, line) in cases {
-        let source = source_of(alloc, trace.as_bytes(), 4096)?;
-        let (status, text) = run(alloc, &[], source, sink_of(alloc, 4096, &[])?)?;
-        let want = format!(in alloc; "bad trace line {line} kind 12\n")?;
-        assert_eq!(rt; status, Status::BadTrace { line, kind: 12 }, "at {trace}");
-        assert_eq!(rt; text.as_slice(), want.as_bytes(), "at {trace}");
+    for (trace, line, kind) in cases {
+        see_refused(&rt, alloc, trace, line, kind)?;
     }
+    Ok(())
+}
+
+#[test]
+fn each_kind_of_refusal_is_reported(rt: HostRuntime) -> Result<(), Fail> {
+    let alloc = rt.alloc();
+    let cases = [
+        ("A P0 y = malloc 8 8\n", 1),
+        ("A P0 y = malloc 00\n", 2),
+        ("A P1 y = malloc 8\n", 3),
+        ("C P0 y = malloc 8\n", 4),
+        ("A P0 free y\n", 5),
+        ("A P0 x = malloc 8\n", 6),
+        ("pool P2\n", 7),
+        ("threads C\n", 8),
+        ("A P0 y = malloc 8", 11),
+        ("A P0 y = malloc 8129\n", 12),
+    ];
+    for (line, kind) in cases {
+        let trace = format!(in alloc; "threads A\npool P0 fixed\nA P0 x = malloc 8\n{line}")?;
+        see_refused(&rt, alloc, trace.as_str(), 4, kind)?;
+    }
+    Ok(())
+}
+
+/// A trace of so many empty lines.
+fn empty_lines(alloc: Global, count: usize) -> Result<MemorySource, AllocError> {
+    Ok(MemorySource::of(vec![in alloc; b'\n'; count]?, 4096, Vec::new(alloc)))
+}
+
+#[test]
+fn too_many_lines_and_too_long_ones_are_refused(rt: HostRuntime) -> Result<(), Fail> {
+    let alloc = rt.alloc();
+    let (status, text) = run(
+        alloc,
+        &[],
+        empty_lines(alloc, 65536)?,
+        sink_of(alloc, 4096, &[])?,
+    )?;
+    assert_eq!(rt; status, Status::Done);
+    assert_eq!(rt; text.as_slice(), b"end\n".as_slice());
+    let (status, text) = run(
+        alloc,
+        &[],
+        empty_lines(alloc, 65537)?,
+        sink_of(alloc, 4096, &[])?,
+    )?;
+    assert_eq!(rt;
+        status,
+        Status::BadTrace {
+            line: 65537,
+            kind: 9
+        }
+    );
+    assert_eq!(rt;
+        text.as_slice(),
+        b"bad trace line 65537 kind 9\n".as_slice()
+    );
+    let mut line = vec![in alloc; b'#'; 1025]?;
+    line.push(b'\n')?;
+    let source = MemorySource::of(line, 4096, Vec::new(alloc));
+    let (status, text) = run(alloc, &[], source, sink_of(alloc, 4096, &[])?)?;
+    assert_eq!(rt; status, Status::BadTrace { line: 1, kind: 10 });
+    assert_eq!(rt; text.as_slice(), b"bad trace line 1 kind 10\n".as_slice());
     Ok(())
 }
 
@@ -197,6 +313,21 @@ fn a_write_that_fails_leaves_the_front_of_the_text(rt: HostRuntime) -> Result<()
 }
 
 #[test]
+fn a_failure_at_each_write_leaves_a_front(rt: HostRuntime) -> Result<(), Fail> {
+    let alloc = rt.alloc();
+    let source = source_of(alloc, TRACE.as_bytes(), 4096)?;
+    let (_, whole) = run(alloc, &[], source, sink_of(alloc, 4096, &[])?)?;
+    for (failing, front) in [(1, 0), (2, 40), (3, 80), (4, 120), (5, 160), (6, 200)] {
+        let source = source_of(alloc, TRACE.as_bytes(), 4096)?;
+        let (status, text) = run(alloc, &[], source, sink_of(alloc, 40, &[failing])?)?;
+        assert_eq!(rt; status, Status::WriteFault, "at write {failing}");
+        assert_eq!(rt; text.len(), front, "at write {failing}");
+        assert!(rt; whole.starts_with(text.as_slice()), "at write {failing}");
+    }
+    Ok(())
+}
+
+#[test]
 fn a_read_that_fails_ends_the_replay(rt: HostRuntime) -> Result<(), Fail> {
     let alloc = rt.alloc();
     let bytes = Vec::from_slice(alloc, TRACE.as_bytes())?;
@@ -210,7 +341,7 @@ fn a_read_that_fails_ends_the_replay(rt: HostRuntime) -> Result<(), Fail> {
 #[test]
 fn a_trace_has_at_most_4194304_bytes(rt: HostRuntime) -> Result<(), Fail> {
     let alloc = rt.alloc();
-    let refused = Status::BadTrace { line: 1, kind: 12 };
+    let refused = Status::BadTrace { line: 1, kind: 11 };
     for (length, want) in [(4194304, refused), (4194305, Status::TooLong)] {
         let bytes = vec![in alloc; b'a'; length]?;
         let source = MemorySource::of(bytes, 4194305, Vec::new(alloc));

@@ -85,7 +85,7 @@ word_read slot (Some text) value read = (text, refl, read)
 word_read slot None value read = absurd (cc)
 
 -- names that were read make a line that names threads
-names_give : (more : Bool) (had words : List (List ℕ)) (deed : Act) → ReadsNames more had words (Ok deed) → deed ≡ act.Threads
+pub names_give : (more : Bool) (had words : List (List ℕ)) (deed : Act) → ReadsNames more had words (Ok deed) → deed ≡ act.Threads
 names_give more had [] deed read = elim read [
   | inl refused ↦ let h : ◌≡◌ {A = Result Act Fault} (Ok deed) (Err _) = refused.1 in absurd (cc)
   | inr named ↦ let h : ◌≡◌ {A = Result Act Fault} (Ok deed) (Ok act.Threads) = named.1 in cc

@@ -1,7 +1,5 @@
 pub mod WordLemmas
 pub mod NumberLemmas
-pub mod FirstLemmas
-pub mod FirstLaws
 pub mod SlotLemmas
 pub mod OptionLemmas
 pub mod RowLemmas
@@ -13,3 +11,7 @@ pub mod OneSlot
 pub mod OneOption
 pub mod OneLine
 pub mod OneText
+pub mod ServedLaws
+pub mod CallForms
+pub mod ReplayShape
+pub mod NamesInTurn

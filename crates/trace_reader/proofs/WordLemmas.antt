@@ -1,7 +1,7 @@
 -- Splitting a text into its parts.
-use Rattle.std.proofs.Common.{◌≡◌, ℕ, Bool, true, false, ◌==◌, List, [], ◌∷◌, ◌++◌, refl, sym, ◌∙◌, ap, append_assoc, append-nil}
+use Rattle.std.proofs.Common.{◌≡◌, ℕ, Bool, true, false, ◌==◌, List, [], ◌∷◌, ◌++◌, length, map, arith, Vec, Global, refl, sym, ◌∙◌, ap, append_assoc, append-nil}
 use Rattle.std.specs.Prelude.{if◌then◌else◌}
-use Rattle.trace_reader.specs.Words.{split_on, with_first, joined}
+use Rattle.trace_reader.specs.Words.{split_on, with_first, joined, items_of}
 
 -- a word ends at a separator
 pub joined_break : (words : List (List ℕ)) (word : List ℕ) (separator : ℕ) (rest : List ℕ) → joined words word ([] ∷ split_on separator rest) ≡ joined (words ++ word ∷ []) [] (split_on separator rest)
@@ -36,3 +36,10 @@ joined_byte words word separator byte other rest =
     ap (λ ws. joined words (word ++ byte ∷ []) ws) some.2 ∙ sym (joined_on words word byte some.0 some.1)
     ∙ ap (λ ws. joined words word (with_first byte ws)) (sym some.2)
     ∙ ap (λ (b : Bool). joined words word (if b then [] ∷ split_on separator rest else with_first byte (split_on separator rest))) (sym other)
+
+-- a text has a last part
+pub no_parts : (bytes : List ℕ) (parts : List (Vec ℕ Global)) → map items_of parts ≡ split_on 10 bytes → length parts ≡ 0 → ⊥
+no_parts bytes [] is none =
+    let some = split_some 10 bytes in
+    let clash : ◌≡◌ {A = List (List ℕ)} [] (some.0 ∷ some.1) = is ∙ some.2 in cc
+no_parts bytes (part ∷ parts) is none = absurd (omega arith)

@@ -1,6 +1,5 @@
 pub mod Words
 pub mod Names
-pub mod First
 pub mod Faults
 pub mod Keywords
 pub mod Forms
@@ -11,3 +10,4 @@ pub mod Rows
 pub mod Acts
 pub mod Text
 pub mod Steps
+pub mod Served

@@ -4,6 +4,7 @@ ghost use Rattle.trace_reader.specs.Words.{items_of};
 ghost use Rattle.trace_reader.specs.Contexts.{before_of};
 ghost use Rattle.trace_reader.specs.Text.{ReadsLine, ReadsOne, ReadsTrace, is_skipped};
 ghost use Rattle.trace_reader.specs.Steps.{AddsLine, AreReadAs};
+ghost use Rattle.trace_reader.specs.Served.{BindsInTurn, NumbersLines, ServesReplays};
 
 use crate::acts::{Act, Forms, TraceLine};
 use crate::before::Context;
@@ -155,6 +156,23 @@ pub fn read_trace(alloc: Global, bytes: &[u8], forms: Forms) -> Result<Trace, Tr
 /// forms, but for memory.
 pub fn traces_are_clear()
     ensures { ReadsOne }
+{}
+
+/// The law of the traces that a replay serves: no line, the line that names the one thread, or the line `pool P0 fixed`; or
+/// the one, then the other, and then calls that are served, each whole, by that thread on that pool.
+pub fn replays_have_one_shape()
+    ensures { ServesReplays }
+{}
+
+/// The law of the numbers of lines: they grow, from 1 to at most 65536, so no two are equal, and there are at most 65536.
+pub fn lines_are_numbered()
+    ensures { NumbersLines }
+{}
+
+/// The law of the names that a trace binds: each name that a call is asked of was bound by an earlier line, and no line
+/// binds a name that an earlier one bound.
+pub fn names_are_bound_in_turn()
+    ensures { BindsInTurn }
 {}
 
 #[cfg(test)]

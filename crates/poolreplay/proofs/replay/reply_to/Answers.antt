@@ -1,10 +1,13 @@
-use Rattle.std.proofs.Common.{◌∙◌, ap}
-use Rattle.poolreplay.specs.Running.{run_text}
-use Rattle.poolreplay.proofs.ReplayLemmas.{spelled_small, replayed}
+use Rattle.std.proofs.Common.{subst}
+use Rattle.std.specs.Prelude.{Err}
+use Rattle.trace_reader.specs.declared.acts.Forms.TheVariants as forms
+use Rattle.trace_reader.specs.declared.refusal.TraceRefused.{TraceRefused}
+use Rattle.trace_reader.specs.Text.{ReadsTrace}
+use Rattle.poolreplay.proofs.StatusLemmas.{refused_reply}
 use Rattle.poolreplay.proofs.replay.reply_to.Goals as goal
 
-pub report-requires : goal.report-requires
-report-requires c = rw c.as_slice.ensures.value (spelled_small c.args.bytes.now c.in-Ok.acts.items c.in-Ok.ensures)
-
-pub returns-in-Ok-report : goal.returns-in-Ok-report
-returns-in-Ok-report c = replayed c.args.bytes.now c.in-Ok-report.text.items c.in-Ok.acts.items c.in-Ok.ensures (c.in-Ok-report.ensures ∙ ap run_text c.as_slice.ensures.value)
+pub returns-in-Err-Bad : goal.returns-in-Err-Bad
+returns-in-Err-Bad c =
+    refused_reply c.args.bytes.now c.in-Err-Bad.error c.refused.result _ _
+    (subst (λ (refusal : TraceRefused). ReadsTrace forms.Replay c.args.bytes.now (Err refusal)) c.in-Err-Bad.field-0-is c.in-Err-Bad.ensures)
+    c.refused.ensures c.spoken.ensures.ok c.spoken.ensures.err

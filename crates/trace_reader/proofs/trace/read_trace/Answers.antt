@@ -1,5 +1,5 @@
 use Rattle.std.proofs.Common.{arith}
-use Rattle.trace_reader.proofs.FirstLemmas.{no_parts}
+use Rattle.trace_reader.proofs.WordLemmas.{no_parts}
 use Rattle.trace_reader.proofs.trace.read_trace.Goals as goal
 
 pub unreachable-requires : goal.unreachable-requires
