@@ -1,24 +1,25 @@
 -- How the steps of a cache bin change its ages.
-use Rattle.std.proofs.Common.{◌≡◌, ◌≤◌, ℕ, Bool, true, false, List, [], ◌∷◌, length, take, nat_lt, ◌==◌, if◌then◌else◌, ap, sym, refl, arith}
+use Rattle.std.proofs.Common.{◌≡◌, ◌≤◌, ℕ, Bool, true, false, List, [], ◌∷◌, length, take, ◌==◌, if◌then◌else◌, ap, sym, refl, arith}
 use Rattle.std.proofs.lemmas.List.Sums.{suffix_len-le-length}
 use Rattle.std.proofs.lemmas.List.{take_all}
 use Rattle.std.proofs.lemmas.Bool.Decides.{nat_tests}
-use Rattle.cache_ages.specs.CacheSteps.{span_between, stale_count, after_cleanup, after_regular, after_soft, regular_threshold, half_of_sum, step_of, after_get, after_put, after_put_in, after_put_over}
-use Rattle.cache_ages.specs.CacheLaws.{LeavesAllButOldest, LeavesInOrder, GetTakesWhatWasPut}
+use Rattle.cache_ages.specs.Times.{is_stale, regular_threshold, soft_threshold}
+use Rattle.cache_ages.specs.CacheSteps.{usage_of, count_stale, after_cleanup, after_regular, after_soft, cache_step, after_get, after_put, after_put_in, after_put_over}
+use Rattle.cache_ages.specs.Laws.{LeavesAllButOldest, LeavesInOrder, GetTakesWhatWasPut}
 use Rattle.cache_ages.specs.declared.CacheNumbers.{CacheNumbers}
 use Rattle.cache_ages.specs.declared.CacheOp.TheVariants.{Put}
 
 -- a cleanup releases no more than there is
-pub stale_count-le-length : (threshold time : ℕ) (ages : List ℕ) → stale_count threshold time ages ≤ length ages
-stale_count-le-length threshold time ages =
-    suffix_len-le-length (λ age. nat_lt threshold (span_between age time)) ages
+pub count_stale-le-length : (threshold time : ℕ) (ages : List ℕ) → count_stale threshold time ages ≤ length ages
+count_stale-le-length threshold time ages =
+    suffix_len-le-length (λ age. is_stale threshold time age) ages
 
 -- a cleanup releases the oldest
 pub cleanup_order : (numbers : CacheNumbers) (threshold time : ℕ) (ages : List ℕ)
     → let step = after_cleanup numbers threshold time ages in
     LeavesAllButOldest ages step.numbers.ages.items [] step.released
 cleanup_order numbers threshold time ages = record {
-  within = stale_count-le-length threshold time ages;
+  within = count_stale-le-length threshold time ages;
   others = refl;
 }
 
@@ -28,7 +29,7 @@ pub regular_order : (numbers : CacheNumbers) (time : ℕ) (ages : List ℕ) → 
     LeavesInOrder step.taken ages step.numbers.ages.items [] step.released
 regular_order numbers time [] h = record { within = omega arith; others = h }
 regular_order numbers time (newest ∷ older) h =
-    cleanup_order numbers (regular_threshold numbers time (newest ∷ older)) time (newest ∷ older)
+    cleanup_order numbers (regular_threshold (usage_of numbers (newest ∷ older)) time) time (newest ∷ older)
 
 -- so does a soft one
 pub soft_order : (numbers : CacheNumbers) (time : ℕ) (ages : List ℕ) → numbers.ages.items ≡ ages
@@ -36,7 +37,7 @@ pub soft_order : (numbers : CacheNumbers) (time : ℕ) (ages : List ℕ) → num
     LeavesInOrder step.taken ages step.numbers.ages.items [] step.released
 soft_order numbers time [] h = record { within = omega arith; others = h }
 soft_order numbers time (newest ∷ older) h =
-    cleanup_order numbers (half_of_sum numbers.threshold numbers.mean) time (newest ∷ older)
+    cleanup_order numbers (soft_threshold numbers.threshold numbers.mean) time (newest ∷ older)
 
 -- a Put of which it is known whether the bin is full
 choice_ages : (full : Bool) (numbers : CacheNumbers) (time : ℕ) (ages : List ℕ)
@@ -63,9 +64,9 @@ pub get_taken : (numbers : CacheNumbers) (time newest : ℕ) (older ages : List 
 get_taken numbers time newest older ages h = rw h (refl, refl)
 
 -- a Get after a Put takes what was put
-pub taken_again : GetTakesWhatWasPut
-taken_again numbers put get room =
+pub get_takes_what_was_put : GetTakesWhatWasPut
+get_takes_what_was_put numbers put get room =
     let there = put_ages numbers put numbers.ages.items room in
-    let taken = get_taken (step_of numbers Put put).numbers get put (take 63 numbers.ages.items)
-    (step_of numbers Put put).numbers.ages.items there in
+    let taken = get_taken (cache_step numbers Put put).numbers get put (take 63 numbers.ages.items)
+    (cache_step numbers Put put).numbers.ages.items there in
     record { taken = taken.0; item = there; rest = taken.1 }

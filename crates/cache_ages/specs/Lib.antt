@@ -1,2 +1,3 @@
 pub mod CacheSteps
-pub mod CacheLaws
+pub mod Laws
+pub mod Times

@@ -1,7 +1,7 @@
 //! What holds of two steps of a bin, one after the other. The functions do nothing: each has a law as its
 //! contract.
 
-ghost use Rattle.cache_ages.specs.CacheLaws.{GetTakesWhatWasPut, UndoRestoresUsed};
+ghost use Rattle.cache_ages.specs.Laws.{GetTakesWhatWasPut, UndoRestoresUsed};
 
 /// A get right after a put takes the item that was put, and leaves the items from before the put: their
 /// first 63, where they were 64.

@@ -6,28 +6,22 @@
 #![tactic(auto)]
 
 ghost use Rattle.std.specs.Prelude.{◌≡◌, ◌-◌, ◌^◌, ◌<◌, ◌≤◌, [], length, slice_index};
-ghost use Rattle.cache_ages.specs.CacheSteps.{CanStep, step_of, plain_step, after_get, after_hit, after_miss, after_put, after_undo, after_release, after_cleanup, after_regular, after_soft, stale_count, ages_of};
-ghost use Rattle.cache_ages.specs.CacheLaws.{LeavesInOrder, put_by};
+ghost use Rattle.cache_ages.specs.CacheSteps.{CanStep, cache_step, unchanged, after_get, after_hit, after_miss, after_put, after_undo, after_release, after_cleanup, after_regular, after_soft, count_stale, copied};
+ghost use Rattle.cache_ages.specs.Laws.{LeavesInOrder, put_by};
 
 pub mod laws;
 #[cfg(test)]
 mod tests;
+pub mod times;
 
 use arrayvec::ArrayVec;
+use times::{
+    Usage, is_stale, mean_after_hit, regular_threshold, soft_threshold, span_between,
+    threshold_after_miss,
+};
 
 /// How many items a bin has at most.
 pub const MOST_ITEMS: usize = 64;
-
-/// At a get that misses the threshold becomes this many times the time since the last release (oneTBB's
-/// `OnMissFactor`).
-pub const MISS: u64 = 2;
-
-/// A bin is large where its items are more than this many times its blocks in use (oneTBB's `TooLargeFactor`).
-pub const LARGE: u64 = 2;
-
-/// A bin has waited long where its last get lies back more than this many times its threshold (oneTBB's
-/// `LongWaitFactor`).
-pub const WAIT: u64 = 16;
 
 /// A bin: the blocks of one size that were freed and may be used again, its items. By `default` it has none, and all
 /// its numbers are 0.
@@ -93,7 +87,7 @@ pub struct CacheStep {
 /// a block in use, and a get needs that one more can be counted. No memory is taken.
 pub fn cache_step(numbers: &CacheNumbers, op: CacheOp, time: u64) -> CacheStep
     requires { CanStep op numbers.now.used }
-    ensures step { result ≡ step_of numbers.now op time }
+    ensures step { result ≡ cache_step numbers.now op time }
 
     // What follows for the items.
     ensures room { length result.numbers.ages.items ≤ 64 }
@@ -129,16 +123,10 @@ fn hit(numbers: &CacheNumbers, time: u64, newest: u64, older: &[u64]) -> CacheSt
     requires room { length older.now ≤ 64 }
     ensures { result ≡ after_hit numbers.now time newest older.now }
 {
-    let lay = time.wrapping_sub(newest);
-    let mean = if numbers.mean == 0 {
-        lay
-    } else {
-        numbers.mean.midpoint(lay)
-    };
     CacheStep {
         numbers: CacheNumbers {
             used: numbers.used + 1,
-            mean,
+            mean: mean_after_hit(numbers.mean, span_between(newest, time)),
             get: time,
             ages: copied(older),
             ..*numbers
@@ -156,10 +144,8 @@ fn miss(numbers: &CacheNumbers, time: u64) -> CacheStep
     let mut step = unchanged(numbers);
     step.numbers.used += 1;
     step.numbers.get = time;
-    if numbers.cleaned != 0 {
-        step.numbers.threshold = MISS.saturating_mul(time.wrapping_sub(numbers.cleaned));
-        step.numbers.cleaned = 0;
-    }
+    step.numbers.threshold = threshold_after_miss(numbers.threshold, numbers.cleaned, time);
+    step.numbers.cleaned = 0;
     step
 }
 
@@ -188,15 +174,14 @@ fn regular(numbers: &CacheNumbers, time: u64) -> CacheStep
     if numbers.ages.is_empty() {
         return unchanged(numbers);
     }
-    let mut threshold = numbers.threshold;
-    let waited = time.wrapping_sub(numbers.get);
-    if u128::from(waited) > u128::from(WAIT) * u128::from(threshold) {
-        threshold = 0;
-    }
-    if numbers.ages.len() as u128 > u128::from(LARGE) * u128::from(numbers.used) {
-        threshold = threshold.midpoint(numbers.mean);
-    }
-    clean_up(numbers, threshold, time)
+    let usage = Usage {
+        count: numbers.ages.len() as u64,
+        used: numbers.used,
+        mean: numbers.mean,
+        threshold: numbers.threshold,
+        get: numbers.get,
+    };
+    clean_up(numbers, regular_threshold(usage, time), time)
 }
 
 fn soft(numbers: &CacheNumbers, time: u64) -> CacheStep
@@ -205,7 +190,11 @@ fn soft(numbers: &CacheNumbers, time: u64) -> CacheStep
     if numbers.ages.is_empty() {
         return unchanged(numbers);
     }
-    clean_up(numbers, numbers.threshold.midpoint(numbers.mean), time)
+    clean_up(
+        numbers,
+        soft_threshold(numbers.threshold, numbers.mean),
+        time,
+    )
 }
 
 fn clean_up(numbers: &CacheNumbers, threshold: u64, time: u64) -> CacheStep
@@ -219,17 +208,17 @@ fn clean_up(numbers: &CacheNumbers, threshold: u64, time: u64) -> CacheStep
 
 // How many items lay here for longer than the threshold, counted from the oldest on, up to the first that did not.
 fn count_stale(ages: &[u64], threshold: u64, time: u64) -> usize
-    ensures value { result ≡ stale_count threshold time ages.now }
+    ensures value { result ≡ count_stale threshold time ages.now }
     ensures within { result ≤ length ages.now }
 {
     ages.iter()
         .rev()
-        .take_while(|age| time.wrapping_sub(**age) > threshold)
+        .take_while(|age| is_stale(threshold, time, **age))
         .count()
 }
 
 fn unchanged(numbers: &CacheNumbers) -> CacheStep
-    ensures { result ≡ plain_step numbers.now }
+    ensures { result ≡ unchanged numbers.now }
 {
     keep_newest(numbers, numbers.ages.len())
 }
@@ -253,7 +242,7 @@ fn keep_newest(numbers: &CacheNumbers, count: usize) -> CacheStep
 
 fn copied(ages: &[u64]) -> ArrayVec<u64, MOST_ITEMS>
     requires { length ages.now ≤ 64 }
-    ensures { result ≡ ages_of ages.now }
+    ensures { result ≡ copied ages.now }
 {
     let mut copy = ArrayVec::new();
     copy.try_extend_from_slice(ages).unwrap();

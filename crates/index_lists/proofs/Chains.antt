@@ -3,7 +3,7 @@ use Rattle.std.proofs.Common.{◌≡◌, ℕ, ◌<◌, ◌≤◌, List, [], ◌�
 use Rattle.std.proofs.lemmas.Bool.Decides.{nat_tests}
 use Rattle.std.proofs.lemmas.List.{get_or-set_same, get_or-set_other}
 use Rattle.index_lists.specs.Lists.{times, first_of}
-use Rattle.index_lists.specs.Links.{Links, link, linked, IsForward, IsBackward}
+use Rattle.index_lists.specs.Links.{Links, link, after_set_link, IsForward, IsBackward}
 use Rattle.index_lists.proofs.Times.{times-append, times-here, not_first, not_behind, none_behind, first_in}
 
 -- no member stands twice
@@ -20,14 +20,14 @@ link-same links i v l = get_or-set_same links i v None l
 pub link-other : (links : Links) (i : ℕ) (v : Option ℕ) (j : ℕ) → (j ≡ i → ⊥) → link (set links i v) j ≡ link links j
 link-other links i v j ne = get_or-set_other links i j v None ne
 
-pub linked-other : (links : Links) (at v : Option ℕ) (j : ℕ) → ((p : ℕ) → at ≡ Some p → j ≡ p → ⊥)
-    → link (linked links at v) j ≡ link links j
-linked-other links None v j ne = refl
-linked-other links (Some p) v j ne = link-other links p v j (ne p refl)
+pub after_set_link-other : (links : Links) (at v : Option ℕ) (j : ℕ) → ((p : ℕ) → at ≡ Some p → j ≡ p → ⊥)
+    → link (after_set_link links at v) j ≡ link links j
+after_set_link-other links None v j ne = refl
+after_set_link-other links (Some p) v j ne = link-other links p v j (ne p refl)
 
-pub length-linked : (links : Links) (at v : Option ℕ) → length (linked links at v) ≡ length links
-length-linked links None v = refl
-length-linked links (Some p) v = length-set links p v
+pub length-after_set_link : (links : Links) (at v : Option ℕ) → length (after_set_link links at v) ≡ length links
+length-after_set_link links None v = refl
+length-after_set_link links (Some p) v = length-set links p v
 
 -- a change of a link elsewhere leaves them
 pub forward_apart : (after : Links) (next : Option ℕ) (xs : List ℕ) (p : ℕ) (v : Option ℕ) → times p xs ≡ 0
@@ -49,13 +49,13 @@ backward_apart before previous (x ∷ xs) p v none (here, links) = (
 
 -- the same for a change at an index that may be none
 pub forward_linked : (after : Links) (next : Option ℕ) (xs : List ℕ) (at v : Option ℕ)
-    → ((p : ℕ) → at ≡ Some p → times p xs ≡ 0) → IsForward after next xs → IsForward (linked after at v) next xs
+    → ((p : ℕ) → at ≡ Some p → times p xs ≡ 0) → IsForward after next xs → IsForward (after_set_link after at v) next xs
 forward_linked after next xs None v none links = links
 forward_linked after next xs (Some p) v none links = forward_apart after next xs p v (none p refl) links
 
 pub backward_linked : (before : Links) (previous : Option ℕ) (xs : List ℕ) (at v : Option ℕ)
     → ((p : ℕ) → at ≡ Some p → times p xs ≡ 0)
-    → IsBackward before previous xs → IsBackward (linked before at v) previous xs
+    → IsBackward before previous xs → IsBackward (after_set_link before at v) previous xs
 backward_linked before previous xs None v none links = links
 backward_linked before previous xs (Some p) v none links = backward_apart before previous xs p v (none p refl) links
 
@@ -103,7 +103,7 @@ forward_front after head xs x l none links = (
 
 pub backward_front : (before : Links) (xs : List ℕ) (x : ℕ) → x < length before → times x xs ≡ 0
     → AreOnce xs → AreBelow xs (length before)
-    → IsBackward before None xs → IsBackward (linked (set before x None) (first_of xs) (Some x)) None (x ∷ xs)
+    → IsBackward before None xs → IsBackward (after_set_link (set before x None) (first_of xs) (Some x)) None (x ∷ xs)
 backward_front before [] x l none once below links = (link-same before x None l, tt)
 backward_front before (y ∷ ys) x l none once below (here, links) = (
   link-other (set before x None) y (Some x) x (λ same. not_first y x ys none (sym same)) ∙ link-same before x None l,
@@ -121,7 +121,7 @@ backward_front before (y ∷ ys) x l none once below (here, links) = (
 pub forward_out : (after : Links) (next : Option ℕ) (z : ℕ) (zs : List ℕ) (x : ℕ) (rest : List ℕ)
     → AreOnce (z ∷ (zs ++ (x ∷ rest))) → AreBelow (z ∷ (zs ++ (x ∷ rest))) (length after)
     → IsForward after next (z ∷ (zs ++ (x ∷ rest)))
-    → IsForward (linked after (last_from (Some z) zs) (link after x)) next (z ∷ (zs ++ rest))
+    → IsForward (after_set_link after (last_from (Some z) zs) (link after x)) next (z ∷ (zs ++ rest))
 forward_out after next z [] x rest once below (here, (there, links)) = (
   here,
   subst (λ n. IsForward (set after z (link after x)) n rest) (sym (link-same after z (link after x) inside))
@@ -135,8 +135,8 @@ forward_out after next z [] x rest once below (here, (there, links)) = (
     apart = not_behind x z rest (none_behind z (x ∷ rest) (once z))
 forward_out after next z (w ∷ ws) x rest once below (here, links) = (
   here,
-  subst (λ n. IsForward (linked after (last_from (Some w) ws) (link after x)) n (w ∷ (ws ++ rest)))
-      (sym (linked-other after (last_from (Some w) ws) (link after x) z apart))
+  subst (λ n. IsForward (after_set_link after (last_from (Some w) ws) (link after x)) n (w ∷ (ws ++ rest)))
+      (sym (after_set_link-other after (last_from (Some w) ws) (link after x) z apart))
       (forward_out after (link after z) w ws x rest
       (λ u. let o = once u in omega arith) (λ u l. below u (omega arith)) links),
 )
@@ -152,7 +152,7 @@ forward_out after next z (w ∷ ws) x rest once below (here, links) = (
 pub backward_out : (before : Links) (previous : Option ℕ) (front : List ℕ) (x : ℕ) (rest : List ℕ)
     → AreOnce (front ++ (x ∷ rest)) → AreBelow (front ++ (x ∷ rest)) (length before)
     → IsBackward before previous (front ++ (x ∷ rest))
-    → IsBackward (linked before (first_of rest) (last_from previous front)) previous (front ++ rest)
+    → IsBackward (after_set_link before (first_of rest) (last_from previous front)) previous (front ++ rest)
 backward_out before previous [] x [] once below links = tt
 backward_out before previous [] x (y ∷ rest) once below (here, (there, links)) =
     (link-same before y previous inside, backward_apart before (Some y) rest y previous apart links)
@@ -163,7 +163,7 @@ backward_out before previous [] x (y ∷ rest) once below (here, (there, links))
     apart : times y rest ≡ 0
     apart = let o = once y in omega (arith, times-here y rest)
 backward_out before previous (z ∷ zs) x rest once below (here, links) = (
-  linked-other before (first_of rest) (last_from (Some z) zs) z apart ∙ here,
+  after_set_link-other before (first_of rest) (last_from (Some z) zs) z apart ∙ here,
   backward_out before (Some z) zs x rest
       (λ u. let o = once u in omega arith) (λ u l. below u (omega arith)) links,
 )

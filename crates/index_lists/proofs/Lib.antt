@@ -5,3 +5,4 @@ pub mod Walks
 pub mod Fronts
 pub mod Leaves
 pub mod Loads
+pub mod CallerLemmas

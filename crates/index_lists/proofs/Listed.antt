@@ -6,8 +6,8 @@ use Rattle.std.proofs.lemmas.Bool.{cases_eq, cases_lt}
 use Rattle.std.proofs.lemmas.Option.{same_Some, slice_get-get_or, slice_get_within, get_or_from_slice_get}
 use Rattle.std.proofs.lemmas.List.{get_or-set_same, get_or-set_other, get_or_past, take_all, take_more}
 use Rattle.std.proofs.lemmas.List.Sums.{sum_by-set}
-use Rattle.index_lists.specs.Lists.{Lists, AreApart, IsIn, IsInSome, IsInNone, members, times, times_listed, first_of, dropped, with_first, without}
-use Rattle.index_lists.proofs.Times.{times-append, times-le, times-two, times-dropped, first_in, found, times-here}
+use Rattle.index_lists.specs.Lists.{Lists, AreApart, IsIn, IsInSome, IsInNone, members, times, times_listed, first_of, list_without, with_first, without}
+use Rattle.index_lists.proofs.Times.{times-append, times-le, times-two, times-list_without, first_in, found, times-here}
 
 -- no member of a list stands in it twice
 pub once_in : (all : Lists) → AreApart all → (list index : ℕ) → times index (members all list) ≤ 1
@@ -96,9 +96,9 @@ members-with_first all list index k l =
     (grind (arith, nat_tests)) (λ j ne. grind (arith, nat_tests)) k
 
 pub members-without : (all : Lists) (list index k : ℕ) → IsIn all list index
-    → members (without all list index) k ≡ cond (k == list) (dropped index (members all list)) (members all k)
+    → members (without all list index) k ≡ cond (k == list) (list_without index (members all list)) (members all k)
 members-without all list index k l =
-    changed (λ j ys. ys ≡ cond (j == list) (dropped index (members all list)) (members all j)) all.lists list (dropped index (members all list)) (list_of all list index l)
+    changed (λ j ys. ys ≡ cond (j == list) (list_without index (members all list)) (members all j)) all.lists list (list_without index (members all list)) (list_of all list index l)
     (grind (arith, nat_tests)) (λ j ne. grind (arith, nat_tests)) k
 
 -- how often each index stands in the lists after a change
@@ -110,8 +110,8 @@ times-with_first all list index u l =
 pub times-without : (all : Lists) (list index u : ℕ) → AreApart all → IsIn all list index
     → times_listed u (without all list index).lists ≡ cond (u == index) 0 (times_listed u all.lists)
 times-without all list index u apart l =
-    let whole = sum_by-set (times u) all.lists list (dropped index (members all list)) [] (list_of all list index l) in
-    let left = times-dropped u index (members all list) in
+    let whole = sum_by-set (times u) all.lists list (list_without index (members all list)) [] (list_of all list index l) in
+    let left = times-list_without u index (members all list) in
     elim (cases_eq u index) [
       | inl e ↦ let o = apart.once u in let here = subst (λ v. 0 < times v (members all list)) (sym e) l in grind (arith, nat_tests)
       | inr ne ↦ grind (arith, nat_tests)

@@ -4,7 +4,7 @@ use Rattle.std.proofs.lemmas.Bool.Decides.{nat_tests}
 use Rattle.std.proofs.lemmas.Bool.{cases_eq, cases_lt}
 use Rattle.std.proofs.lemmas.List.{get_or-set_other, get_or_past}
 use Rattle.std.proofs.lemmas.List.Sums.{sum_by-set, sum_by-cons, get_or-le-sum_by}
-use Rattle.index_lists.specs.Lists.{times, times_listed, dropped, first_of}
+use Rattle.index_lists.specs.Lists.{times, times_listed, list_without, first_of}
 
 pub times-here : (u : ℕ) (xs : List ℕ) → times u (u ∷ xs) ≡ 1 + times u xs
 times-here u xs = grind (arith, nat_tests)
@@ -40,20 +40,20 @@ split u (x ∷ xs) l = elim (cases_eq u x) [
     behind ne = grind (arith, nat_tests)
 
 -- nothing is dropped where the index doesn't stand
-pub dropped-none : (u : ℕ) (xs : List ℕ) → times u xs ≡ 0 → dropped u xs ≡ xs
-dropped-none u [] none = refl
-dropped-none u (x ∷ xs) none = let ih = dropped-none u xs (not_behind x u xs none) in grind (arith, nat_tests)
+pub list_without-none : (u : ℕ) (xs : List ℕ) → times u xs ≡ 0 → list_without u xs ≡ xs
+list_without-none u [] none = refl
+list_without-none u (x ∷ xs) none = let ih = list_without-none u xs (not_behind x u xs none) in grind (arith, nat_tests)
 
-pub dropped-split : (u : ℕ) (front rest : List ℕ) → times u front ≡ 0 → times u rest ≡ 0
-    → dropped u (front ++ (u ∷ rest)) ≡ front ++ rest
-dropped-split u [] rest a b = let ih = dropped-none u rest b in grind (arith, nat_tests)
-dropped-split u (x ∷ front) rest a b =
-    let ih = dropped-split u front rest (not_behind x u front a) b in grind (arith, nat_tests)
+pub list_without-split : (u : ℕ) (front rest : List ℕ) → times u front ≡ 0 → times u rest ≡ 0
+    → list_without u (front ++ (u ∷ rest)) ≡ front ++ rest
+list_without-split u [] rest a b = let ih = list_without-none u rest b in grind (arith, nat_tests)
+list_without-split u (x ∷ front) rest a b =
+    let ih = list_without-split u front rest (not_behind x u front a) b in grind (arith, nat_tests)
 
 -- what is dropped stands nowhere, and all else as often as before
-pub times-dropped : (v u : ℕ) (xs : List ℕ) → times v (dropped u xs) ≡ cond (v == u) 0 (times v xs)
-times-dropped v u [] = grind (arith, nat_tests)
-times-dropped v u (x ∷ xs) = let ih = times-dropped v u xs in elim (cases_eq x u) [
+pub times-list_without : (v u : ℕ) (xs : List ℕ) → times v (list_without u xs) ≡ cond (v == u) 0 (times v xs)
+times-list_without v u [] = grind (arith, nat_tests)
+times-list_without v u (x ∷ xs) = let ih = times-list_without v u xs in elim (cases_eq x u) [
   | inl e ↦ grind (arith, nat_tests)
   | inr ne ↦ grind (arith, nat_tests)
 ]

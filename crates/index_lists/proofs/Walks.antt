@@ -5,7 +5,7 @@ use Rattle.std.proofs.lemmas.Bool.Decides.{nat_tests}
 use Rattle.std.proofs.lemmas.Bool.{eqb-true, ne_eqb, cases_Bool}
 use Rattle.std.proofs.lemmas.List.{same_lists, get_or-map, length-map, get_or_default}
 use Rattle.std.proofs.lemmas.Map.Steps.{length-le_from_distinct_below}
-use Rattle.index_lists.specs.Lists.{Lists, members, times}
+use Rattle.index_lists.specs.Lists.{Lists, members, times, AreApart}
 use Rattle.index_lists.specs.Links.{Links, link, walk, walked, IsForward, AreLinked}
 use Rattle.index_lists.proofs.Times.{not_first, not_behind, none_behind}
 use Rattle.index_lists.proofs.Chains.{AreOnce, AreBelow}
@@ -35,6 +35,10 @@ stands u (x ∷ xs) e = elim (cases_Bool (eqb u x)) [
 -- members that stand once and are below a number are no more than that
 short : (xs : List ℕ) (n : ℕ) → AreOnce xs → AreBelow xs n → length xs ≤ n
 short xs n once below = length-le_from_distinct_below xs n (distinct xs once) (λ u h. below u (stands u xs h))
+
+-- no list has more members than there are indices. Callers may use this
+pub few_members : (all : Lists) (list : ℕ) → AreApart all → length (members all list) ≤ all.indices
+few_members all list apart = short (members all list) all.indices (once_in all apart list) (λ u h. below_in all apart list u h)
 
 walk_is : (after : Links) (steps : ℕ) (next : Option ℕ) (xs : List ℕ) → IsForward after next xs → length xs ≤ steps
     → walk after steps next ≡ xs

@@ -11,9 +11,9 @@ abbrev pub link : Links → ℕ → Option ℕ
 link links index = slice_index_or links index None
 
 -- the link at an index, if there is one, is now `to`
-abbrev pub linked : Links → Option ℕ → Option ℕ → Links
-linked links None to = links
-linked links (Some index) to = slice_set links index to
+abbrev pub after_set_link : Links → Option ℕ → Option ℕ → Links
+after_set_link links None to = links
+after_set_link links (Some index) to = slice_set links index to
 
 -- what the links go through from here on, in at most so many steps
 unfoldable pub walk : Links → ℕ → Option ℕ → List ℕ

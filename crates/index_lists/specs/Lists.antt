@@ -51,12 +51,12 @@ abbrev pub with_first : Lists → ℕ → ℕ → Lists
 with_first all list index = record all { lists = slice_set all.lists list (index ∷ members all list) }
 
 -- a list without the index, the others in their order
-abbrev pub dropped : ℕ → List ℕ → List ℕ
-dropped index xs = filter (λ other. not (other == index)) xs
+abbrev pub list_without : ℕ → List ℕ → List ℕ
+list_without index xs = filter (λ other. not (other == index)) xs
 
 -- the index leaves the list
 abbrev pub without : Lists → ℕ → ℕ → Lists
-without all list index = record all { lists = slice_set all.lists list (dropped index (members all list)) }
+without all list index = record all { lists = slice_set all.lists list (list_without index (members all list)) }
 
 -- what stands right behind the index, in the list that it is in
 abbrev pub IsFollowing : Lists → ℕ → Option ℕ → Type 0

@@ -9,7 +9,7 @@
 
 ghost use Rattle.std.specs.Prelude.{◌≡◌, ◌<◌, ◌+◌, ℕ, length, slice_get, Some, IfOk, IfSome};
 ghost use Rattle.index_lists.specs.Lists.{empty_lists, members, first_of, IsIn, IsInSome, IsInNone, AreApart, with_first, without, IsFollowing};
-ghost use Rattle.index_lists.specs.Links.{linked};
+ghost use Rattle.index_lists.specs.Links.{after_set_link};
 
 #[cfg(test)]
 mod tests;
@@ -127,7 +127,7 @@ impl IndexLists {
 // Sets the link at an index, if there is one.
 fn set_link(links: &mut [Option<u32>], index: Option<u32>, to: Option<u32>)
     requires { IfSome index (λ index. index < length links.old) }
-    ensures { links.new ≡ linked links.old index to }
+    ensures { links.new ≡ after_set_link links.old index to }
 {
     if let Some(index) = index {
         links[index as usize] = to;

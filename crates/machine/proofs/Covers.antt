@@ -4,6 +4,7 @@ use Rattle.std.specs.Prelude.{if◌then◌else◌, ◌==◌}
 use Rattle.std.specs.declared.option.Option.{Option}
 use Rattle.std.proofs.lemmas.Bool.Decides.{nat_tests}
 use Rattle.std.proofs.lemmas.Bool.{cases_Bool, eqb-true}
+use Rattle.std.proofs.Math.Bool.{or-false, or_assoc}
 use Rattle.pool_types.specs.declared.values.Place.{Place}
 use Rattle.pool_types.specs.declared.policy.RegionRec.{RegionRec}
 use Rattle.part_model.specs.declared.holders.Holder.{Holder}
@@ -11,8 +12,7 @@ use Rattle.part_model.specs.declared.moves.Range.{Range}
 use Rattle.part_model.specs.declared.moves.Part.{Part}
 use Rattle.part_model.specs.Holding.{Holding, same_region, lies_in, after_part, after_parts, AreApart, CanMoveAll}
 use Rattle.part_model.specs.Totals.{has_holder}
-use Rattle.part_model.proofs.Changes.{lies_in_any, after_part-inside, after_part-outside, can_move-after_part}
-use Rattle.part_model.proofs.Ranges.{lies_in-parts}
+use Rattle.part_model.proofs.CallerLemmas.{lies_in_any, after_part-inside, after_part-outside, can_move-after_part, lies_in-parts}
 use Rattle.machine.specs.Ranges.{Each, part_of, region_range}
 use Rattle.machine.specs.Regions.{some_part, front_range, granules_range, back_range}
 use Rattle.machine.proofs.Shapes.{Stays}
@@ -79,13 +79,9 @@ pub lies_in_any-some_part : (range : Range) (from to : Option Holder) (byte : Pl
 lies_in_any-some_part range from to byte =
     elim (cases_Bool (range.bytes == 0)) [
       | inl none ↦ ap (λ (b : Bool). lies_in_any byte (if b then [] else part_of range from to ∷ [])) none ∙ sym (empty (eqb-true range.bytes 0 none))
-      | inr some ↦ ap (λ (b : Bool). lies_in_any byte (if b then [] else part_of range from to ∷ [])) some ∙ only (lies_in byte range)
+      | inr some ↦ ap (λ (b : Bool). lies_in_any byte (if b then [] else part_of range from to ∷ [])) some ∙ or-false (lies_in byte range)
     ]
   where
-    only : (b : Bool) → (b || false) ≡ b
-    only true = refl
-    only false = refl
-
     empty : range.bytes ≡ 0 → lies_in byte range ≡ false
     empty none = elim (cases_Bool (lies_in byte range)) [
       | inl inside ↦ absurd (let lies = lies_in-parts byte range inside in let above = lies.from in let below = lies.below in omega arith)
@@ -126,9 +122,5 @@ lies_in_any-three pool region outer outer' inner inner' byte inside =
     ∙ ap (λ b. (lies_in_any byte (some_part (front_range pool region) outer outer') || lies_in_any byte (some_part (granules_range pool region) inner inner')) || b) (lies_in_any-some_part (back_range pool region) outer outer' byte)
     ∙ ap (λ b. (lies_in_any byte (some_part (front_range pool region) outer outer') || b) || lies_in byte (back_range pool region)) (lies_in_any-some_part (granules_range pool region) inner inner' byte)
     ∙ ap (λ b. (b || lies_in byte (granules_range pool region)) || lies_in byte (back_range pool region)) (lies_in_any-some_part (front_range pool region) outer outer' byte)
-    ∙ assoc (lies_in byte (front_range pool region)) (lies_in byte (granules_range pool region)) (lies_in byte (back_range pool region))
+    ∙ or_assoc (lies_in byte (front_range pool region)) (lies_in byte (granules_range pool region)) (lies_in byte (back_range pool region))
     ∙ lies_in-three pool region byte inside
-  where
-    assoc : (x y z : Bool) → ((x || y) || z) ≡ (x || (y || z))
-    assoc true y z = refl
-    assoc false y z = refl

@@ -1,6 +1,6 @@
 -- The two short runs are runs.
 use Rattle.std.proofs.Common.{◌∷◌, inl, ◌≡◌, ◌≢◌, ◌<◌, [], Some, None, Bool, true, false, refl, arith, lit<, lit≤}
-use Rattle.std.specs.Prelude.{Contains, if◌then◌else◌}
+use Rattle.std.specs.Prelude.{if◌then◌else◌}
 use Rattle.std.specs.declared.option.Option.{Option}
 use Rattle.pool_types.specs.declared.values.Place.{Place}
 use Rattle.pool_types.specs.declared.values.Request.TheVariants.{Malloc}
@@ -12,29 +12,26 @@ use Rattle.pool_types.specs.declared.values.Answer.TheVariants.{Null}
 use Rattle.pool_types.specs.declared.values.NullCause.TheVariants.{NoFit}
 use Rattle.machine.specs.Ranges.{part_of}
 use Rattle.part_model.specs.Holding.{lies_in}
-use Rattle.size_classes.specs.Classes.{first_class}
-use Rattle.size_classes.specs.Served.{served_plain_at}
+use Rattle.size_classes.specs.Classes.{class_of}
+use Rattle.size_classes.specs.Served.{served_plain}
 use Rattle.size_classes.specs.declared.Served.TheVariants.{Small}
-use Rattle.size_classes.proofs.Serving.{served_plain_at-small}
+use Rattle.size_classes.proofs.CallerLemmas.{served_plain-small}
 use Rattle.machine.specs.States.{nothing_yet}
 use Rattle.machine.specs.Regions.{IsNewRegion, coming_parts, front_range, back_range}
 use Rattle.machine.specs.Journal.{Bins_seen, Nothing_seen}
 use Rattle.machine.specs.Lawful.{region_comes, nothing_moves}
 use Rattle.machine.specs.Runs.{Progress, no_progress, after_event, MayStep, IsRun, Begins, Makes}
 use Rattle.machine.specs.Examples.{fixed_pool, step_of, scrap, malloc_in_vain}
+use Rattle.list_laws.proofs.Members.{Contains-none}
 use Rattle.machine.proofs.Moving.{two_apart, two_whole, two_move, none_whole}
 use Rattle.machine.proofs.Mallocs.{small_no_block}
-
--- nothing is a member of the empty list
-pub none_in : {X : Type 0} → (x : X) → Contains [] x → ⊥
-none_in x (k, below, is) = omega (arith, below)
 
 -- the region without a granule can come
 pub scrap_is_new : IsNewRegion (fixed_pool 8192) nothing_yet scrap
 scrap_is_new = record {
   number = record {
     unused = lit≤ tt;
-    free = λ region live. absurd (none_in region live);
+    free = λ region live. absurd (Contains-none region live);
     least = λ other least below free. omega arith;
   };
   below = lit< tt;
@@ -46,7 +43,7 @@ scrap_is_new = record {
   most = inl refl;
   right = λ some. absurd (omega arith);
   within = lit< tt;
-  apart = λ other live. absurd (none_in other live);
+  apart = λ other live. absurd (Contains-none other live);
   some = lit< tt;
   lowest = λ room. omega arith;
   longest = λ fewer indices longest. absurd (let none : 0 < 0 = fewer in omega arith);
@@ -85,12 +82,12 @@ scrap_comes = record {
 }
 
 -- a malloc of 8 bytes is for an object of the first class
-pub eight_is_first : first_class 8 ≡ Some 0
-unfolding first_class
+pub eight_is_first : class_of 8 ≡ Some 0
+unfolding class_of
 eight_is_first = refl
 
-pub eight_is_small : served_plain_at 8 ≡ Small 0
-eight_is_small = served_plain_at-small 8 0 eight_is_first
+pub eight_is_small : served_plain 8 ≡ Small 0
+eight_is_small = served_plain-small 8 0 eight_is_first
 
 -- the scan, and the answer
 pub scrap_refuses : MayStep (fixed_pool 8192) with_scrap
@@ -106,23 +103,23 @@ scrap_refuses = record {
       record {
         whole = tt;
         disjoint = tt;
-        there = λ block member. absurd (none_in block member);
+        there = λ block member. absurd (Contains-none block member);
         all = λ byte bin. absurd (scrap_held (λ holder. holder ≡ Some Bin → ⊥) (λ e. cc) (λ e. cc) byte bin);
-        joined = λ once one other member. absurd (none_in one member);
-        blocks = λ block member. absurd (none_in block member);
+        joined = λ once one other member. absurd (Contains-none one member);
+        blocks = λ block member. absurd (Contains-none block member);
       },
       (
         Small 0,
         eight_is_small,
         (
           record {
-            rest = λ byte own. absurd (none_in own.0 own.1.0.0);
-            private = λ byte own. absurd (none_in own.0 own.1.0.0);
+            rest = λ byte own. absurd (Contains-none own.0 own.1.0.0);
+            private = λ byte own. absurd (Contains-none own.0 own.1.0.0);
             stored = scrap_held (λ holder. holder ≢ Some (SlabCache 0)) (λ e. cc) (λ e. cc);
           },
           λ alone. record {
-            public = λ byte own. absurd (none_in own.0 own.1.0.0);
-            orphan = λ slab kept. absurd (none_in slab kept.0.0);
+            public = λ byte own. absurd (Contains-none own.0 own.1.0.0);
+            orphan = λ slab kept. absurd (Contains-none slab kept.0.0);
           },
         ),
       ),
@@ -131,11 +128,11 @@ scrap_refuses = record {
       answers = (
         refl,
         record {
-          accepted = record { sound = refl; numbers = λ e. absurd (omega arith); fits = λ granules alignment large. absurd (small_no_block (served_plain_at 8) 0 granules alignment eight_is_small large) };
+          accepted = record { sound = refl; numbers = λ e. absurd (omega arith); fits = λ granules alignment large. absurd (small_no_block (served_plain 8) 0 granules alignment eight_is_small large) };
           earlier = record { state = nothing_yet; entry = step_of (coming_parts 0 0 scrap) [] (Some scrap) Nothing_seen None } ∷ [];
           served = Small 0;
           seen = 0;
-          vain = record { later = _; steps = refl; still = refl; is = eight_is_small; vain = (refl, lit≤ tt, λ block member. absurd (none_in block member), (0, (refl, refl), refl)) };
+          vain = record { later = _; steps = refl; still = refl; is = eight_is_small; vain = (refl, lit≤ tt, λ block member. absurd (Contains-none block member), (0, (refl, refl), refl)) };
           found = (refl, (lit< tt, tt), refl, refl, refl);
           drained = λ alone. record {
             queue = scrap_held (λ holder. holder ≢ Some Queue) (λ e. cc) (λ e. cc);
@@ -145,7 +142,7 @@ scrap_refuses = record {
         (refl, refl),
       );
       no_hand = scrap_held (λ holder. holder ≢ Some (Hand 0)) (λ e. cc) (λ e. cc);
-      no_slab = λ slab kept. absurd (none_in slab kept.0);
+      no_slab = λ slab kept. absurd (Contains-none slab kept.0);
     },
   );
   moves = record { grants = tt; ends = tt; keeps = refl };

@@ -8,9 +8,9 @@ use Rattle.pool_types.specs.Policies.{IsAllowed}
 use Rattle.part_model.specs.declared.holders.Holder.TheVariants.{Head, Rest, Object, Bin, Hand}
 use Rattle.part_model.specs.declared.moves.Range.{Range}
 use Rattle.part_model.specs.Holding.{lies_in}
-use Rattle.part_model.proofs.Ranges.{lies_in-parts, lies_in-is}
+use Rattle.part_model.proofs.CallerLemmas.{lies_in-parts, lies_in-is, apart_before}
 use Rattle.size_classes.specs.Classes.{class_size, class_objects}
-use Rattle.size_classes.specs.Served.{served_plain_at}
+use Rattle.size_classes.specs.Served.{served_plain}
 use Rattle.pool_types.specs.declared.rows.Keeper.TheVariants.{Seat, Hand as InHand}
 use Rattle.machine.specs.States.{Slab, nothing_yet}
 use Rattle.machine.specs.Ranges.{part_of, parts_of, region_range, head_range, objects_range, object_range, behind_object}
@@ -19,9 +19,10 @@ use Rattle.machine.specs.Journal.{Enters, Nothing_seen}
 use Rattle.machine.specs.Lawful.{region_comes, blocks_put, slab_begins, rest_granted}
 use Rattle.machine.specs.Runs.{Progress, after_event, MayStep, IsRun, Makes}
 use Rattle.machine.specs.Examples.{fixed_pool, step_of, mebibyte, first_place, first_slab, first_malloc}
-use Rattle.machine.proofs.Moving.{one_apart, one_whole, one_moves, two_apart, two_whole, two_move, apart_before, lies_within, none_inside}
+use Rattle.machine.proofs.Moving.{one_apart, one_whole, one_moves, two_apart, two_whole, two_move, lies_within, none_inside}
 use Rattle.machine.proofs.Mallocs.{small_no_block}
-use Rattle.machine.proofs.Examples.{none_in, begun, eight_is_small}
+use Rattle.machine.proofs.Examples.{begun, eight_is_small}
+use Rattle.list_laws.proofs.Members.{Contains-none}
 
 -- the ranges of the run
 abbrev pub all_range : Range
@@ -47,7 +48,7 @@ pub mebibyte_is_new : IsNewRegion (fixed_pool 1048576) nothing_yet mebibyte
 mebibyte_is_new = record {
   number = record {
     unused = lit≤ tt;
-    free = λ region live. absurd (none_in region live);
+    free = λ region live. absurd (Contains-none region live);
     least = λ other least below free. omega arith;
   };
   below = lit< tt;
@@ -59,7 +60,7 @@ mebibyte_is_new = record {
   most = inl refl;
   right = λ some. refl;
   within = lit< tt;
-  apart = λ other live. absurd (none_in other live);
+  apart = λ other live. absurd (Contains-none other live);
   some = lit< tt;
   lowest = λ room. omega arith;
   longest = λ fewer indices longest. absurd (let none : 128 < 128 = fewer in omega arith);
@@ -90,7 +91,7 @@ put_step = record {
       126,
       record {
         whole = record { region = mebibyte; live = (0, lit< tt, refl); there = (refl, refl); before = 2; starts = refl; bytes = refl; some = lit< tt; inside = lit≤ tt };
-        free = λ slab booked. absurd (none_in slab booked);
+        free = λ slab booked. absurd (Contains-none slab booked);
       },
     ),
     tt,
@@ -120,7 +121,7 @@ slab_step = record {
   lawful = slab_begins first_place 0 (lit< tt) (record {
     block = record {
       whole = record { region = mebibyte; live = (0, lit< tt, refl); there = (refl, refl); before = 0; starts = refl; bytes = refl; some = lit< tt; inside = lit≤ tt };
-      free = λ slab booked. absurd (none_in slab booked);
+      free = λ slab booked. absurd (Contains-none slab booked);
     };
     even = refl;
   });
@@ -181,7 +182,7 @@ grant_step = record {
     record {
       answers = (
         record {
-          accepted = record { sound = refl; numbers = λ e. absurd (omega arith); fits = λ granules alignment large. absurd (small_no_block (served_plain_at 8) 0 granules alignment eight_is_small large) };
+          accepted = record { sound = refl; numbers = λ e. absurd (omega arith); fits = λ granules alignment large. absurd (small_no_block (served_plain 8) 0 granules alignment eight_is_small large) };
           granted = record { from = Some Rest; one = refl; of_seat = refl };
           suits = inr (inl (record { region = mebibyte; live = (0, lit< tt, refl); there = (refl, refl); enough = lit≤ tt; inside = lit≤ tt; aligned = refl }));
         },

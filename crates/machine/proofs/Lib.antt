@@ -8,3 +8,4 @@ pub mod Mallocs
 pub mod Examples
 pub mod FirstMalloc
 pub mod Scans
+pub mod CallerLemmas

@@ -6,8 +6,8 @@ use Rattle.std.specs.Bool.{OnTrue}
 use Rattle.std.proofs.lemmas.Bool.{cases_Bool, leb-true, leb-false}
 use Rattle.size_classes.specs.declared.Served.{Served}
 use Rattle.size_classes.specs.declared.Served.TheVariants.{Small, Large}
-use Rattle.size_classes.specs.Classes.{first_class}
-use Rattle.size_classes.proofs.Serving.{served_plain_at-small}
+use Rattle.size_classes.specs.Classes.{class_of}
+use Rattle.size_classes.proofs.CallerLemmas.{served_plain-small}
 use Rattle.pool_types.specs.declared.values.Request.TheVariants.{Malloc}
 use Rattle.pool_types.specs.declared.policy.RegionRec.{RegionRec}
 use Rattle.part_model.specs.declared.moves.Part.{Part}
@@ -26,12 +26,12 @@ pub small_no_block : (served : Served) (class granules alignment : ℕ) → serv
 small_no_block served class granules alignment small large = let e : Small class ≡ Large granules alignment = sym small ∙ large in cc
 
 -- a malloc of a size that has a class is accepted, as long as the seat has numbers
-pub malloc_accepted : (terms : Terms) (call : Call) (size class : ℕ) → call.request ≡ Malloc size → first_class size ≡ Some class →
+pub malloc_accepted : (terms : Terms) (call : Call) (size class : ℕ) → call.request ≡ Malloc size → class_of size ≡ Some class →
     call.before.last call.seat ≢ 2 ^ 55 - 1 → IsAccepted terms call
 malloc_accepted terms call size class asked found numbers = record {
   sound = ap is_bad asked;
   numbers = numbers;
-  fits = λ granules alignment large. absurd (small_no_block (served_for call.request) class granules alignment (ap served_for asked ∙ served_plain_at-small size class found) large);
+  fits = λ granules alignment large. absurd (small_no_block (served_for call.request) class granules alignment (ap served_for asked ∙ served_plain-small size class found) large);
 }
 
 -- what is a multiple of 8, and of 16 or 64 where the size wants it, is aligned for the size
@@ -85,5 +85,5 @@ nothing_moved terms call = record { grants = by_test (not (wants_object call.req
     leaves false = tt
 
 -- of the starts of the right parity the first two indices have the lowest
-pub first_is_lowest : (terms : Terms) (state : State) (region : RegionRec) → region.first ≤ 1 → IsRightStart region region.first → (room : HasRoom terms state region) → region.first ≤ room.run.from
+pub first_is_lowest : (terms : Terms) (state : State) (region : RegionRec) → region.first ≤ 1 → IsRightStart region region.first → (room : HasRoom terms state region) → region.first ≤ room.gap.from
 first_is_lowest terms state region near right room = let other = room.right in omega (arith, near, right, other)

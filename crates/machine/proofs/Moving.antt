@@ -1,15 +1,14 @@
 -- Ranges that are whole and apart, and parts that can be moved.
-use Rattle.std.proofs.Common.{◌≡◌, ◌∙◌, ℕ, ◌+◌, ◌*◌, ◌≤◌, inl, inr, List, [], ◌∷◌, true, All, arith}
+use Rattle.std.proofs.Common.{◌≡◌, ◌∙◌, ℕ, ◌+◌, ◌*◌, ◌≤◌, List, [], ◌∷◌, true, All, arith}
 use Rattle.std.specs.declared.option.Option.{Option}
-use Rattle.std.proofs.lemmas.Bool.{cases_Bool}
 use Rattle.std.proofs.lemmas.List.Elements.{All-nil, All-cons}
 use Rattle.pool_types.specs.declared.values.Place.{Place}
 use Rattle.part_model.specs.declared.holders.Holder.{Holder}
 use Rattle.part_model.specs.declared.moves.Range.{Range}
 use Rattle.part_model.specs.declared.moves.Part.{Part}
 use Rattle.part_model.specs.Lawful.{is_lawful_pair}
-use Rattle.part_model.specs.Holding.{Holding, lies_in, IsApart, AreApart, IsWhole, AreWhole, CanMoveAll}
-use Rattle.part_model.proofs.Ranges.{lies_in-parts, lies_in-is, same_region-parts, same_region-is}
+use Rattle.part_model.specs.Holding.{Holding, lies_in, AreApart, IsWhole, AreWhole, CanMoveAll}
+use Rattle.part_model.proofs.CallerLemmas.{lies_in-parts, lies_in-is, same_region-parts, same_region-is, apart_before}
 use Rattle.machine.specs.Ranges.{Each, part_of}
 use Rattle.size_classes.specs.Classes.{class_size, class_objects}
 use Rattle.std.proofs.Math.Nat.{div-mul-le_self}
@@ -18,18 +17,6 @@ use Rattle.std.proofs.Math.Nat.{div-mul-le_self}
 pub each-all : {X : Type 0} → (P : X → Type 0) → (xs : List X) → Each P xs → All P xs
 each-all P [] all = All-nil P
 each-all P (x ∷ xs) (first, rest) = All-cons P x xs first (each-all P xs rest)
-
--- a range that ends before another one begins is apart from it
-pub apart_before : (one other : Range) → one.place.offset + one.bytes ≤ other.place.offset → IsApart one other
-apart_before one other before byte inside = elim (cases_Bool (lies_in byte other)) [
-  | inl both ↦ absurd (
-      let first = lies_in-parts byte one inside in
-      let second = lies_in-parts byte other both in
-      let below = first.below in
-      let above = second.from in
-      omega arith)
-  | inr outside ↦ outside
-]
 
 -- no part, one part, or two that stand one before the other, are apart
 pub none_apart : AreApart []

@@ -4,15 +4,15 @@ use Rattle.std.specs.Prelude.{Contains, if◌then◌else◌, List}
 use Rattle.std.proofs.lemmas.Bool.{cases_Bool, and_parts, and_from, le-leb, lt-ltb}
 use Rattle.pool_types.specs.declared.policy.RegionRec.{RegionRec}
 use Rattle.part_model.specs.Holding.{Holding, lies_in}
-use Rattle.part_model.specs.Totals.{has_holder, place_at, sum_below, region_bytes}
-use Rattle.part_model.proofs.Sums.{sum_below-same, sum_below-none, sum_below-span}
-use Rattle.part_model.proofs.Ranges.{lies_in-parts, lies_in-is, same_region-is, same_region-parts}
-use Rattle.part_model.proofs.MoveCounts.{totals_sum_is}
+use Rattle.part_model.specs.Totals.{has_holder, place_at, region_bytes}
+use Rattle.part_model.proofs.CallerLemmas.{lies_in-parts, lies_in-is, same_region-is, same_region-parts, totals_sum}
 use Rattle.machine.specs.States.{State}
 use Rattle.machine.specs.Runs.{no_progress, after_events}
-use Rattle.machine.specs.Laws.{RunsSum}
+use Rattle.machine.specs.Laws.{RunsSumToTheirRegions}
 use Rattle.machine.proofs.Covers.{whole}
 use Rattle.machine.proofs.Runs.{IsSound, IsSoundState, lies_in-number, sound_run, sound_nothing}
+use Rattle.list_laws.specs.Sums.{sum_below}
+use Rattle.list_laws.proofs.Sums.{sum_below-same, sum_below-none, sum_below-span}
 
 -- two tests that tell the same
 pub same_test : (x y : Bool) → (x ≡ true → y ≡ true) → (y ≡ true → x ≡ true) → x ≡ y
@@ -71,11 +71,11 @@ other_bytes_are pool held regions next sound other number none =
     ]
 
 -- the sum of the totals is the bytes of the regions
-pub runs_sum : RunsSum
-runs_sum terms events run =
+pub runs_sum_to_their_regions : RunsSumToTheirRegions
+runs_sum_to_their_regions terms events run =
     let sound : IsSoundState terms (after_events no_progress events).state = sound_run terms no_progress events run.1 (sound_nothing terms) in
     let state : State = (after_events no_progress events).state in
-    let both = totals_sum_is (after_events no_progress events).state.held in
+    let both = totals_sum (after_events no_progress events).state.held in
     record {
       sum = both.0 ∙ both.1;
       each = live_bytes_are terms.limits.pool (after_events no_progress events).state.held (after_events no_progress events).state.regions (after_events no_progress events).state.next sound;

@@ -1,8 +1,8 @@
 -- Laws of runs.
-use Rattle.std.proofs.Common.{◌≡◌, ◌⊎◌, ℕ, ◌+◌, ◌-◌, ◌*◌, ◌^◌, ◌<◌, ◌≤◌, inl, inr, List, [], ◌∷◌, ◌++◌, Some, None, Bool, true, false, ◌&&◌, ◌||◌, not, refl, sym, ◌∙◌, ap, arith, zero, suc, subst, filter}
+use Rattle.std.proofs.Common.{◌≡◌, ℕ, ◌+◌, ◌-◌, ◌*◌, ◌^◌, ◌<◌, ◌≤◌, inl, inr, List, [], ◌∷◌, ◌++◌, Some, None, Bool, true, false, ◌&&◌, ◌||◌, not, refl, sym, ◌∙◌, ap, arith, subst, filter}
 use Rattle.std.specs.Prelude.{Contains, if◌then◌else◌, ◌==◌}
 use Rattle.std.specs.List.{list_any}
-use Rattle.std.proofs.lemmas.Bool.{cases_Bool, and_parts, eqb-true, eq-eqb}
+use Rattle.std.proofs.lemmas.Bool.{cases_Bool, or_cases, or_left, or_right, and_from, not-true, not_from_false, and_parts, eqb-true, eq-eqb}
 use Rattle.std.proofs.lemmas.List.Elements.{Contains-append_left, Contains-push, Contains-push_cases}
 use Rattle.pool_types.specs.declared.values.Place.{Place}
 use Rattle.pool_types.specs.declared.policy.RegionRec.{RegionRec}
@@ -10,8 +10,8 @@ use Rattle.part_model.specs.declared.holders.Holder.TheVariants.{Waste, Hand}
 use Rattle.part_model.specs.declared.moves.Part.{Part}
 use Rattle.part_model.specs.Holding.{Holding, lies_in, after_parts, AreApart, CanMoveAll}
 use Rattle.part_model.specs.Totals.{has_holder}
-use Rattle.part_model.proofs.Changes.{holders_of-is}
-use Rattle.part_model.proofs.Ranges.{lies_in-parts, same_region-parts}
+use Rattle.part_model.proofs.CallerLemmas.{holders_of-is, lies_in-parts, same_region-parts}
+use Rattle.list_laws.proofs.Members.{Contains-filter, Contains-filter_from}
 use Rattle.machine.specs.States.{Terms, State, nothing_yet}
 use Rattle.machine.specs.Ranges.{Each}
 use Rattle.machine.specs.Regions.{coming_parts, leaving_parts, front_range, granules_range, back_range, IsNewRegion}
@@ -58,19 +58,6 @@ sound_stays pool seat held regions next parts stays apart can sound =
       unique = sound.unique;
     })
 
--- one of two is true
-pub or_cases : (x y : Bool) → (x || y) ≡ true → (x ≡ true) ⊎ (y ≡ true)
-or_cases true y is = inl refl
-or_cases false y is = inr is
-
-pub or_left : (x y : Bool) → x ≡ true → (x || y) ≡ true
-or_left true y is = refl
-or_left false y is = absurd (let e = is in cc)
-
-pub or_right : (x y : Bool) → y ≡ true → (x || y) ≡ true
-or_right true y is = refl
-or_right false y is = is
-
 -- a region comes
 pub sound_comes : (terms : Terms) (state : State) (seat : ℕ) (region : RegionRec) → IsNewRegion terms state region →
     IsSound terms.limits.pool state.held state.regions state.next →
@@ -111,32 +98,6 @@ sound_comes terms state seat region new sound =
     not_new : (one : RegionRec) → Contains state.regions one → one.number ≡ region.number → ⊥
     not_new one old same = let fit = sound.fits one old in let below = fit.below in let unused = new.number.unused in omega arith
 
--- members of a list that a test keeps
-pub filter-member : {X : Type 0} → (test : X → Bool) (xs : List X) (x : X) → Contains (filter test xs) x → Contains xs x × (test x ≡ true)
-filter-member test [] x (k, below, is) = absurd (omega (arith, below))
-filter-member test (y ∷ ys) x found =
-    elim (cases_Bool (test y)) [
-      | inl kept ↦ kept_first kept (λ more. filter-member test ys x more) (subst (λ (b : Bool). Contains (if b then y ∷ filter test ys else filter test ys) x) kept found)
-      | inr dropped ↦ later (filter-member test ys x (subst (λ (b : Bool). Contains (if b then y ∷ filter test ys else filter test ys) x) dropped found))
-    ]
-  where
-    later : Contains ys x × (test x ≡ true) → Contains (y ∷ ys) x × (test x ≡ true)
-    later ((k, below, is), kept) = ((suc k, omega (arith, below), is), kept)
-
-    kept_first : test y ≡ true → (Contains (filter test ys) x → Contains ys x × (test x ≡ true)) → Contains (y ∷ filter test ys) x → Contains (y ∷ ys) x × (test x ≡ true)
-    kept_first kept step (zero, below, is) = ((zero, omega arith, is), subst (λ z. test z ≡ true) is kept)
-    kept_first kept step (suc k, below, is) = later (step (k, omega (arith, below), is))
-
-pub filter-keeps : {X : Type 0} → (test : X → Bool) (xs : List X) (x : X) → Contains xs x → test x ≡ true → Contains (filter test xs) x
-filter-keeps test [] x (k, below, is) kept = absurd (omega (arith, below))
-filter-keeps test (y ∷ ys) x (zero, below, is) kept =
-    subst (λ (b : Bool). Contains (if b then y ∷ filter test ys else filter test ys) x) (sym (subst (λ z. test z ≡ true) (sym is) kept)) (zero, omega arith, is)
-filter-keeps test (y ∷ ys) x (suc k, below, is) kept = by_test (test y) (filter-keeps test ys x (k, omega (arith, below), is) kept)
-  where
-    by_test : (b : Bool) → Contains (filter test ys) x → Contains (if b then y ∷ filter test ys else filter test ys) x
-    by_test true (j, inside, at) = (suc j, omega (arith, inside), at)
-    by_test false found = found
-
 -- the parts are of the region of this number
 abbrev pub IsOfNumber : ℕ → Part → Type 0
 IsOfNumber number part = part.range.place.region ≡ number
@@ -163,19 +124,6 @@ no_parts [] all none = refl
 no_parts (part ∷ parts) (takes, all) none =
     absurd (let some : (not (has_holder part.to) || list_any (λ p. not (has_holder p.to)) parts) ≡ true = or_left (not (has_holder part.to)) (list_any (λ p. not (has_holder p.to)) parts) (ap not takes) in let e : true ≡ false = sym some ∙ none in cc)
 
--- both of two are true
-pub and_true : (x y : Bool) → x ≡ true → y ≡ true → (x && y) ≡ true
-and_true true y is other = other
-and_true false y is other = absurd (let e = is in cc)
-
-pub not_true : (x : Bool) → not x ≡ true → x ≡ false
-not_true false is = refl
-not_true true is = absurd (let e = is in cc)
-
-pub not_false : (x : Bool) → x ≡ false → not x ≡ true
-not_false false is = refl
-not_false true is = absurd (let e = is in cc)
-
 -- a byte of a region bears its number
 pub lies_in-number : (pool : ℕ) (region : RegionRec) (byte : Place) → lies_in byte (whole pool region) ≡ true → byte.region ≡ region.number
 lies_in-number pool region byte inside = (same_region-parts byte (whole pool region).place (lies_in-parts byte (whole pool region) inside).region).1
@@ -197,21 +145,21 @@ sound_gone pool seat held regions next region live some_part_goes sound =
     λ one. goes-is region.number (leaving_parts pool seat region) one of ∙ ap (λ b. b && (region.number == one.number)) some_part_goes in
     record {
       some = λ one kept byte inside.
-          let member = filter-member (λ r. not (goes (leaving_parts pool seat region) r)) regions one kept in
-          held_is byte ∙ and_true (has_holder (held byte)) (not (lies_in byte (whole pool region))) (sound.some one member.0 byte inside)
-          (not_false (lies_in byte (whole pool region)) (elsewhere one byte inside (sym (goes_is one) ∙ not_true (goes (leaving_parts pool seat region) one) member.1)));
+          let member = Contains-filter (λ r. not (goes (leaving_parts pool seat region) r)) regions one kept in
+          held_is byte ∙ and_from (has_holder (held byte)) (not (lies_in byte (whole pool region))) (sound.some one member.0 byte inside)
+          (not_from_false (lies_in byte (whole pool region)) (elsewhere one byte inside (sym (goes_is one) ∙ not-true (goes (leaving_parts pool seat region) one) member.1)));
       none = λ byte holds.
           let both = and_parts (has_holder (held byte)) (not (lies_in byte (whole pool region))) (sym (held_is byte) ∙ holds) in
           let found = sound.none byte both.0 in (
             found.0,
-            filter-keeps (λ r. not (goes (leaving_parts pool seat region) r)) regions found.0 found.1
-                (not_false (goes (leaving_parts pool seat region) found.0) (goes_is found.0 ∙ other found.0 byte found.1 found.2 (not_true (lies_in byte (whole pool region)) both.1))),
+            Contains-filter_from (λ r. not (goes (leaving_parts pool seat region) r)) regions found.0 found.1
+                (not_from_false (goes (leaving_parts pool seat region) found.0) (goes_is found.0 ∙ other found.0 byte found.1 found.2 (not-true (lies_in byte (whole pool region)) both.1))),
             found.2,
           );
-      fits = λ one kept. sound.fits one (filter-member (λ r. not (goes (leaving_parts pool seat region) r)) regions one kept).0;
+      fits = λ one kept. sound.fits one (Contains-filter (λ r. not (goes (leaving_parts pool seat region) r)) regions one kept).0;
       unique = λ one two kept kept_two same.
-          sound.unique one two (filter-member (λ r. not (goes (leaving_parts pool seat region) r)) regions one kept).0
-          (filter-member (λ r. not (goes (leaving_parts pool seat region) r)) regions two kept_two).0 same;
+          sound.unique one two (Contains-filter (λ r. not (goes (leaving_parts pool seat region) r)) regions one kept).0
+          (Contains-filter (λ r. not (goes (leaving_parts pool seat region) r)) regions two kept_two).0 same;
     }
   where
     elsewhere : (one : RegionRec) (byte : Place) → lies_in byte (whole pool one) ≡ true → (region.number == one.number) ≡ false → lies_in byte (whole pool region) ≡ false

@@ -6,7 +6,7 @@ use Rattle.pool_types.specs.declared.values.Place.{Place}
 use Rattle.pool_types.specs.declared.values.Request.{Request}
 use Rattle.part_model.specs.declared.moves.Range.{Range}
 use Rattle.part_model.specs.Holding.{same_region, lies_in, IsApart}
-use Rattle.part_model.proofs.Ranges.{lies_in-parts, lies_in-is, same_region-is, same_region-parts}
+use Rattle.part_model.proofs.CallerLemmas.{lies_in-parts, lies_in-is, same_region-is, same_region-parts}
 use Rattle.size_classes.specs.declared.Served.{Served}
 use Rattle.size_classes.specs.declared.Served.TheVariants.{Small, Large, Bad}
 use Rattle.machine.specs.States.{Terms, State}
@@ -14,10 +14,10 @@ use Rattle.machine.specs.Ranges.{AreDisjoint}
 use Rattle.machine.specs.Journal.{Entry, Look}
 use Rattle.machine.specs.Looks.{bin_of, first_bin, blocks_seen, HasSlab, Fits}
 use Rattle.machine.specs.Answers.{Call}
-use Rattle.machine.specs.Runs.{Event, Begins, Makes, Reset_begins, Reset_ends, End_begins, Serving, Resetting, Progress, no_progress, has_any, with_step, after_begin, after_step, after_event, after_events, joined_call, new_call, IsJustPut, AreLists, MayHappen, IsRunFrom}
+use Rattle.machine.specs.Runs.{Event, Begins, Makes, Reset_begins, Reset_ends, End_begins, Serving, Resetting, Progress, no_progress, has_any, with_step, after_begin, after_step, after_event, after_events, after_other_begins, new_call, IsJustPut, AreLists, MayHappen, IsRunFrom}
 use Rattle.machine.specs.Laws.{IsInBins, LooksMissNone}
 use Rattle.machine.proofs.Shapes.{each-contains}
-use Rattle.machine.proofs.Runs.{filter-keeps}
+use Rattle.list_laws.proofs.Members.{Contains-filter_from}
 
 -- two ranges of a list that have a byte in common are one
 pub disjoint-same : (ranges : List Range) → AreDisjoint ranges → (one other : Range) → Contains ranges one → Contains ranges other → (byte : Place) →
@@ -147,7 +147,7 @@ lone_begin progress seat request serving lone = record {
     or_false false y is = is
     or_false true y is = absurd (let e = is in cc)
 
-    by_calls : (calls : List Call) → has_any calls ≡ false → IsShort (map joined_call calls ++ new_call progress seat request ∷ [])
+    by_calls : (calls : List Call) → has_any calls ≡ false → IsShort (map after_other_begins calls ++ new_call progress seat request ∷ [])
     by_calls [] none = tt
     by_calls (call ∷ calls) none = absurd (let e = none in cc)
 
@@ -193,7 +193,7 @@ bin_of-least granules bytes room = omega arith
 -- a block that a scan from its need's first bin would see
 pub seen_block : (look : Look) (block : Range) → Contains look.lists block → look.first ≤ bin_of block.bytes → look.last ≡ 511 → Contains (blocks_seen look) block
 seen_block look block member from last =
-    filter-keeps (λ b. nat_le look.first (bin_of b.bytes) && nat_le (bin_of b.bytes) look.last) look.lists block member
+    Contains-filter_from (λ b. nat_le look.first (bin_of b.bytes) && nat_le (bin_of b.bytes) look.last) look.lists block member
     (and_from (nat_le look.first (bin_of block.bytes)) (nat_le (bin_of block.bytes) look.last) (le-leb look.first (bin_of block.bytes) from)
     (le-leb (bin_of block.bytes) look.last (let most = bin_of-most block.bytes in subst (λ n. bin_of block.bytes ≤ n) (sym last) most)))
 

@@ -9,20 +9,19 @@ use Rattle.part_model.specs.declared.holders.Holder.TheVariants.{Rest, Private, 
 use Rattle.part_model.specs.declared.moves.Part.{Part}
 use Rattle.part_model.specs.Lawful.{is_lawful_pair}
 use Rattle.part_model.specs.Holding.{Holding, CanMove, CanMoveAll}
-use Rattle.part_model.proofs.Changes.{one_holder, moves_apart}
-use Rattle.part_model.proofs.MoveCounts.{totals_follow_is}
+use Rattle.part_model.proofs.CallerLemmas.{moves_keep_one_holder, apart_moves_commute, totals_follow_moves}
 use Rattle.machine.specs.Lawful.{next_grant}
-use Rattle.machine.specs.Laws.{StepsKeepOne, ApartStepsCommute, StepsFollow, GrantsAreFresh, is_grantable}
+use Rattle.machine.specs.Laws.{StepsKeepOneHolder, ApartStepsCommute, TotalsFollowSteps, GrantsAreFresh, is_grantable}
 use Rattle.machine.proofs.Shapes.{next_object, each-contains, IsNextObject}
 
 -- a step keeps exactly one holder a byte
-pub steps_keep_one : StepsKeepOne
-steps_keep_one terms progress entry may byte = one_holder entry.seat progress.state.held entry.parts may.apart may.there byte
+pub steps_keep_one_holder : StepsKeepOneHolder
+steps_keep_one_holder terms progress entry may byte = moves_keep_one_holder entry.seat progress.state.held entry.parts may.apart may.there byte
 
 -- steps over ranges that are apart commute
 pub apart_steps_commute : ApartStepsCommute
 apart_steps_commute terms progress one other may may_other apart =
-    let both = moves_apart progress.state.held one.parts other.parts apart in
+    let both = apart_moves_commute progress.state.held one.parts other.parts apart in
     record {
       first = (both.first one.seat).0 may.there;
       second = (both.second other.seat).0 may_other.there;
@@ -30,9 +29,9 @@ apart_steps_commute terms progress one other may may_other apart =
     }
 
 -- the totals follow a step
-pub steps_follow : StepsFollow
-steps_follow terms progress entry may placed =
-    totals_follow_is entry.seat progress.state.held entry.parts may.apart may.whole placed may.there
+pub totals_follow_steps : TotalsFollowSteps
+totals_follow_steps terms progress entry may placed =
+    totals_follow_moves entry.seat progress.state.held entry.parts may.apart may.whole placed may.there
 
 -- what goes to an object is grantable
 pub pair_is_grantable : (seat : ℕ) (from : Option Holder) (grant : Grant) → is_lawful_pair seat from (Some (Object grant)) ≡ true → is_grantable seat from ≡ true

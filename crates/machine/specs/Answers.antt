@@ -15,6 +15,8 @@ use Rattle.pool_types.specs.declared.values.Found.TheVariants.{NoPlace, NoGrant,
 use Rattle.pool_types.specs.declared.policy.Limits.{Limits}
 use Rattle.pool_types.specs.declared.policy.RegionRec.{RegionRec}
 use Rattle.pool_types.specs.declared.rows.Keeper.TheVariants.{Seat, Hand as InHand}
+use Rattle.pool_types.specs.Geometry.{unit_bytes, granule_bytes, slab_granules}
+use Rattle.pool_types.specs.Limits.{most_regions, region_numbers}
 use Rattle.part_model.specs.declared.holders.Holder.{Holder}
 use Rattle.part_model.specs.declared.holders.Holder.TheVariants.{Object, SlabCache, Cached, Queue, Hand}
 use Rattle.part_model.specs.declared.moves.Part.{Part}
@@ -23,11 +25,11 @@ use Rattle.size_classes.specs.declared.Served.{Served}
 use Rattle.size_classes.specs.declared.Served.TheVariants.{Small, Large, Bad}
 use Rattle.machine.specs.States.{Terms, State, Slab}
 use Rattle.machine.specs.Ranges.{Each, IsIn}
-use Rattle.machine.specs.Regions.{IsShownNumber, IsLongestRun, MayObtain, asked_indices}
+use Rattle.machine.specs.Regions.{IsShownNumber, IsLongestGap, MayObtain, asked_indices}
 use Rattle.machine.specs.Journal.{Entry, BookChange, Callback_failed, is_object}
 use Rattle.machine.specs.Lawful.{IsKept}
 use Rattle.machine.specs.Suits.{Suits, size_of}
-use Rattle.machine.specs.Looks.{served_for, first_bin, look_of, AreInVain}
+use Rattle.machine.specs.Looks.{served_for, last_bin, first_bin, look_of, AreInVain}
 
 -- a step of a call, and the state in which it was made
 pub record Moment : Type 0 where
@@ -107,14 +109,14 @@ abbrev pub Failed : List Moment → Type 0
 Failed [] = ⊥
 Failed (moment ∷ moments) = ((bytes : ℕ) × (moment.entry.seen ≡ Callback_failed bytes)) ⊎ Failed moments
 
--- the place is a unit of 8 bytes of a live region's granules: objects can begin there
+-- the place is a unit of a live region's granules: objects can begin there
 pub record IsUnit (limits : Limits) (state : State) (place : Place) : Type 0 where
   pub region : RegionRec
   pub live : Contains state.regions region
   pub there : IsIn limits place region
   pub above : region.waste ≤ place.offset
-  pub below : place.offset < region.waste + region.granules * 8192
-  pub unit : (region.region.base + place.offset) % 8 ≡ 0
+  pub below : place.offset < region.waste + region.granules * granule_bytes
+  pub unit : (region.region.base + place.offset) % unit_bytes ≡ 0
 
 -- the object of the grant begins at the place
 pub record BeginsAt (state : State) (place : Place) (grant : Grant) : Type 0 where
@@ -130,7 +132,7 @@ pub record IsObject (state : State) (place : Place) (usable : ℕ) (grant : Gran
 -- what is found in place of an object, in a call on this place
 abbrev pub IsFound : Limits → Call → Place → Found → Type 0
 IsFound limits call place NoPlace =
-    (place.pool ≢ limits.pool) ⊎ ((4194304 ≤ place.region) ⊎ AtStep (λ state. IsUnit limits state place → ⊥) call.moments)
+    (place.pool ≢ limits.pool) ⊎ ((region_numbers ≤ place.region) ⊎ AtStep (λ state. IsUnit limits state place → ⊥) call.moments)
 IsFound limits call place NoGrant = AtStep (λ state. IsUnit limits state place × ((grant : Grant) → BeginsAt state place grant → ⊥)) call.moments
 IsFound limits call place (Other grant) =
     AtSteps (λ state. (first : Grant) × BeginsAt state place first × (first ≢ grant)) (λ state. BeginsAt state place grant) call.moments
@@ -150,7 +152,7 @@ pub record IsAccepted (terms : Terms) (call : Call) : Type 0 where
 
 -- the granules that the backend is asked for
 abbrev pub granules_for : Served → ℕ
-granules_for (Small class) = 2
+granules_for (Small class) = slab_granules
 granules_for (Large granules alignment) = granules
 granules_for Bad = 0
 
@@ -163,9 +165,9 @@ pub record LooksInVain (limits : Limits) (call : Call) (earlier : List Moment) (
   pub is : served_for call.request ≡ served
   pub vain : AreInVain limits served (first_bin served) (flat_map (λ moment. look_of moment.state moment.entry.seen) later) seen
 
--- At a step at which a region may be obtained the longest run of free granule indices had `greatest`, too few for the `asked` ones.
+-- At a step at which a region may be obtained the longest gap had `greatest` indices, too few for the `asked` ones.
 pub record IsSpanFull (terms : Terms) (served : Served) (asked greatest : ℕ) (moments : List Moment) : Type 0 where
-  pub longest : AtStep (λ state. MayObtain terms state × IsLongestRun terms state greatest) moments
+  pub longest : AtStep (λ state. MayObtain terms state × IsLongestGap terms state greatest) moments
   pub wanted : asked ≡ asked_indices terms (granules_for served)
   pub short : greatest < asked
 
@@ -173,7 +175,7 @@ pub record IsSpanFull (terms : Terms) (served : Served) (asked greatest : ℕ) (
 -- limit.
 pub record IsRegionsFull (terms : Terms) (out next : ℕ) (moments : List Moment) : Type 0 where
   pub there : AtStep (λ state. MayObtain terms state × (length state.regions ≡ out) × IsShownNumber state next) moments
-  pub limit : (64 ≤ out) ⊎ (4194304 ≤ next)
+  pub limit : (most_regions ≤ out) ⊎ (region_numbers ≤ next)
 
 -- What the backend found before the last scan, whose steps are the later ones. Where it found two causes, each may be answered.
 abbrev pub IsBackendCause : Terms → Served → List Moment → List Moment → ℕ → NullCause → Type 0
@@ -182,7 +184,7 @@ IsBackendCause terms served earlier later seen (SpanFull asked greatest) = IsSpa
 IsBackendCause terms served earlier later seen (RegionsFull out next) = IsRegionsFull terms out next earlier
 IsBackendCause terms served earlier later seen (NoFit looks) =
     (terms.policy.fixed ≡ true) × Each (λ moment. 0 < moment.state.next) later
-    × (looks.first ≡ first_bin served) × (looks.last ≡ 511) × (looks.seen ≡ seen)
+    × (looks.first ≡ first_bin served) × (looks.last ≡ last_bin) × (looks.seen ≡ seen)
 IsBackendCause terms served earlier later seen cause = ⊥
 
 -- No block waits in the queue or lies in the cache. That the seat's slab cache is empty is said of a scan for a slab; of one for a block

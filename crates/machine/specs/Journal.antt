@@ -8,13 +8,13 @@ use Rattle.pool_types.specs.declared.rows.Row.{Row}
 use Rattle.pool_types.specs.declared.rows.KeeperChange.{KeeperChange}
 use Rattle.part_model.specs.declared.holders.Holder.{Holder}
 use Rattle.part_model.specs.declared.holders.Holder.TheVariants.{Object}
-use Rattle.part_model.specs.declared.holders.Kind.TheVariants.{Bin as OfBin}
+use Rattle.part_model.specs.declared.holders.HolderKind.TheVariants.{Bin as OfBin}
 use Rattle.part_model.specs.declared.moves.Range.{Range}
 use Rattle.part_model.specs.declared.moves.Part.{Part}
 use Rattle.part_model.specs.Holding.{after_parts}
 use Rattle.part_model.specs.Totals.{has_holder, is_at}
 use Rattle.machine.specs.States.{State, Slab}
-use Rattle.machine.specs.Ranges.{same_place, range_at, lies_across}
+use Rattle.machine.specs.Ranges.{same_place, range_at, overlaps}
 
 -- a change of the book of slabs: a slab enters, the slab at a place leaves, or a slab goes from one keeper to another
 pub data BookChange : Type 0 where
@@ -81,15 +81,15 @@ abbrev pub slab_after : KeeperChange → Slab → Slab
 slab_after change slab = if same_place slab.place change.slab then record { place = slab.place; class = slab.class; keeper = change.to } else slab
 
 -- the book after one change
-abbrev pub book_changed : List Slab → BookChange → List Slab
-book_changed book (Enters slab) = book ++ slab ∷ []
-book_changed book (Leaves place) = filter (λ slab. not (same_place slab.place place)) book
-book_changed book (Passes change) = map (slab_after change) book
+abbrev pub book_after_change : List Slab → BookChange → List Slab
+book_after_change book (Enters slab) = book ++ slab ∷ []
+book_after_change book (Leaves place) = filter (λ slab. not (same_place slab.place place)) book
+book_after_change book (Passes change) = map (slab_after change) book
 
 -- the book after several changes
 abbrev pub book_after : List Slab → List BookChange → List Slab
 book_after book [] = book
-book_after book (change ∷ changes) = book_after (book_changed book change) changes
+book_after book (change ∷ changes) = book_after (book_after_change book change) changes
 
 -- the range, where it has a byte
 abbrev pub some_range : Range → List Range
@@ -98,20 +98,20 @@ some_range range = if range.bytes == 0 then [] else range ∷ []
 -- what is left of a block where a range is taken out of it: what lies before the range, and what lies behind it
 abbrev pub block_left : Range → Range → List Range
 block_left taken block =
-    if lies_across taken block
+    if overlaps taken block
     then some_range (range_at block.place block.place.offset (taken.place.offset - block.place.offset))
     ++ some_range (range_at block.place (taken.place.offset + taken.bytes) (block.place.offset + block.bytes - (taken.place.offset + taken.bytes)))
     else block ∷ []
 
 -- the blocks in bins after one part: what comes from bins is taken out of its block, and what goes to bins is a block
-abbrev pub blocks_moved : List Range → Part → List Range
-blocks_moved blocks part =
+abbrev pub blocks_after_part : List Range → Part → List Range
+blocks_after_part blocks part =
     (if is_at OfBin part.from then flat_map (block_left part.range) blocks else blocks) ++ (if is_at OfBin part.to then part.range ∷ [] else [])
 
 -- the blocks in bins after several parts
 abbrev pub blocks_after : List Range → List Part → List Range
 blocks_after blocks [] = blocks
-blocks_after blocks (part ∷ parts) = blocks_after (blocks_moved blocks part) parts
+blocks_after blocks (part ∷ parts) = blocks_after (blocks_after_part blocks part) parts
 
 -- the state after an entry
 abbrev pub after_entry : State → Entry → State
@@ -125,6 +125,6 @@ after_entry state entry = record {
 }
 
 -- the state after several entries
-abbrev pub after : State → List Entry → State
-after state [] = state
-after state (entry ∷ entries) = after (after_entry state entry) entries
+abbrev pub after_entries : State → List Entry → State
+after_entries state [] = state
+after_entries state (entry ∷ entries) = after_entries (after_entry state entry) entries

@@ -8,12 +8,13 @@ use Rattle.pool_types.specs.declared.policy.Limits.{Limits}
 use Rattle.pool_types.specs.declared.policy.RegionRec.{RegionRec}
 use Rattle.pool_types.specs.declared.rows.Keeper.{Keeper}
 use Rattle.pool_types.specs.declared.rows.Keeper.TheVariants.{Seat, Orphan, Hand as InHand}
+use Rattle.pool_types.specs.Geometry.{line_bytes}
 use Rattle.part_model.specs.declared.holders.Holder.{Holder}
 use Rattle.part_model.specs.declared.holders.Holder.TheVariants.{Head, Rest, Private, Public, Object, LargeHead, SlabCache, Cached, Bin, Queue, Hand}
 use Rattle.part_model.specs.declared.moves.Range.{Range}
 use Rattle.part_model.specs.declared.moves.Part.{Part}
 use Rattle.part_model.specs.Holding.{lies_in}
-use Rattle.size_classes.specs.Classes.{class_objects}
+use Rattle.size_classes.specs.Classes.{class_count, class_objects}
 use Rattle.machine.specs.States.{Terms, State, Slab}
 use Rattle.machine.specs.Ranges.{Each, part_of, parts_of, range_at, lies_in_parts, IsGranules, IsBlock, IsSlabRoom, slab_range, head_range, objects_range, object_range, behind_object, IsObjectOf}
 use Rattle.machine.specs.Regions.{coming_parts, leaving_parts, IsNewRegion}
@@ -65,16 +66,16 @@ large_head_range block head = range_at block.place block.place.offset head
 abbrev pub large_object_range : Range → ℕ → Range
 large_object_range block head = range_at block.place (block.place.offset + head) (block.bytes - head)
 
--- The object begins at the first address that is at least 64 bytes into the block and a multiple of the alignment, which is a power
--- of two from 64 on. `head` is how many bytes lie before it.
+-- The object begins at the first address that is at least a line into the block and a multiple of the alignment, which is a power
+-- of two from a line on. `head` is how many bytes lie before it.
 pub record IsCut (limits : Limits) (state : State) (block : Range) (alignment head : ℕ) : Type 0 where
   pub granules : ℕ
   pub whole : IsBlock limits state block granules
   pub power : IsPowerOfTwo alignment
-  pub line : 64 ≤ alignment
-  pub least : 64 ≤ head
+  pub line : line_bytes ≤ alignment
+  pub least : line_bytes ≤ head
   pub aligned : (whole.whole.region.region.base + block.place.offset + head) % alignment ≡ 0
-  pub first : (other : ℕ) → 64 ≤ other → other < head → (whole.whole.region.region.base + block.place.offset + other) % alignment ≢ 0
+  pub first : (other : ℕ) → line_bytes ≤ other → other < head → (whole.whole.region.region.base + block.place.offset + other) % alignment ≢ 0
   pub some : head < block.bytes
 
 -- all bytes of the grant's object and of its head lie in the block
@@ -124,7 +125,7 @@ pub data IsLawful (terms : Terms) (state : State) (seat : ℕ) : List Part → L
   slab_fetched : (place : Place) → IsSlabRoom terms.limits state place →
       IsLawful terms state seat (part_of (slab_range place) (Some (SlabCache seat)) (Some (Hand seat)) ∷ []) [] None
   -- A slab begins: it enters the book, kept by the seat. (Hand to Head and Rest)
-  slab_begins : (place : Place) (class : ℕ) → class < 26 → IsSlabRoom terms.limits state place →
+  slab_begins : (place : Place) (class : ℕ) → class < class_count → IsSlabRoom terms.limits state place →
       IsLawful terms state seat
       (part_of (head_range place class) (Some (Hand seat)) (Some Head)
       ∷ part_of (objects_range place class) (Some (Hand seat)) (Some Rest)

@@ -2,6 +2,8 @@
 use Rattle.std.specs.Prelude.{◌≡◌, ◌<◌, ℕ, ◌==◌, Bool, true, false, List, All, Contains, Option, Some}
 use Rattle.pool_types.specs.declared.values.Place.{Place}
 use Rattle.pool_types.specs.declared.policy.RegionRec.{RegionRec}
+use Rattle.pool_types.specs.Geometry.{granule_bytes}
+use Rattle.pool_types.specs.Limits.{plain_region_bytes}
 use Rattle.part_model.specs.declared.holders.Holder.{Holder}
 use Rattle.part_model.specs.declared.holders.Holder.TheVariants.{Rest, Private, Object, Bin, Hand}
 use Rattle.part_model.specs.declared.moves.Range.{Range}
@@ -13,15 +15,15 @@ use Rattle.machine.specs.States.{Terms, State}
 use Rattle.machine.specs.Ranges.{region_range}
 use Rattle.machine.specs.Journal.{Entry, Look, is_object, after_entry}
 use Rattle.machine.specs.Lawful.{next_grant}
-use Rattle.machine.specs.Looks.{first_bin, blocks_seen, Fits}
+use Rattle.machine.specs.Looks.{first_bin, last_bin, blocks_seen, Fits}
 use Rattle.machine.specs.Answers.{Call}
 use Rattle.machine.specs.Runs.{Event, Progress, no_progress, MayStep, AreLists, after_events, IsRun}
 use Rattle.machine.specs.Examples.{fixed_pool, first_malloc, malloc_in_vain}
 use Rattle.size_classes.specs.declared.Served.{Served}
 
 -- a step that may be made keeps exactly one holder a byte
-abbrev pub StepsKeepOne : Type 0
-StepsKeepOne = (terms : Terms) (progress : Progress) (entry : Entry) → MayStep terms progress entry →
+abbrev pub StepsKeepOneHolder : Type 0
+StepsKeepOneHolder = (terms : Terms) (progress : Progress) (entry : Entry) → MayStep terms progress entry →
     (byte : Place) → KeepsOneHolder progress.state.held (after_entry progress.state entry).held entry.parts byte
 
 -- the moves of two steps can be made in both orders, and leave the same holders
@@ -36,8 +38,8 @@ ApartStepsCommute = (terms : Terms) (progress : Progress) (one other : Entry) �
     AreApartFrom one.parts other.parts → StepsCommute progress.state one other
 
 -- the totals follow a step that may be made
-abbrev pub StepsFollow : Type 0
-StepsFollow = (terms : Terms) (progress : Progress) (entry : Entry) → MayStep terms progress entry → All IsPlaced entry.parts →
+abbrev pub TotalsFollowSteps : Type 0
+TotalsFollowSteps = (terms : Terms) (progress : Progress) (entry : Entry) → MayStep terms progress entry → All IsPlaced entry.parts →
     Follows (totals_of progress.state.held) (totals_of (after_entry progress.state entry).held) entry.parts
 
 -- what a seat may grant: rest, a private object, or what it has in hand
@@ -79,12 +81,12 @@ pub record AreRegionsBytes (terms : Terms) (state : State) : Type 0 where
       region_bytes has_holder state.held pool number ≡ 0
 
 -- in a run the sum of the totals is the bytes of the regions, at any time
-abbrev pub RunsSum : Type 0
-RunsSum = (terms : Terms) (events : List Event) → IsRun terms events → AreRegionsBytes terms (after_events no_progress events).state
+abbrev pub RunsSumToTheirRegions : Type 0
+RunsSumToTheirRegions = (terms : Terms) (events : List Event) → IsRun terms events → AreRegionsBytes terms (after_events no_progress events).state
 
 -- two runs: an object is granted in the one, and refused in the other
 abbrev pub RunsExist : Type 0
-RunsExist = IsRun (fixed_pool 1048576) first_malloc × IsRun (fixed_pool 8192) malloc_in_vain
+RunsExist = IsRun (fixed_pool plain_region_bytes) first_malloc × IsRun (fixed_pool granule_bytes) malloc_in_vain
 
 -- a byte is in bins
 abbrev pub IsInBins : State → Range → Type 0
@@ -96,7 +98,7 @@ abbrev pub LooksMissNone : Type 0
 LooksMissNone = (terms : Terms) (events : List Event) → IsRun terms events → (after_events no_progress events).overlapped ≡ false →
     (call : Call) → Contains (after_events no_progress events).calls call →
     (served : Served) (look : Look) → AreLists terms (after_events no_progress events) call.seat look.lists →
-    look.first ≡ first_bin served → look.last ≡ 511 →
+    look.first ≡ first_bin served → look.last ≡ last_bin →
     ((block : Range) → Contains (blocks_seen look) block → Fits terms.limits (after_events no_progress events).state served block → ⊥) →
     (range : Range) → 0 < range.bytes → IsInBins (after_events no_progress events).state range →
     Fits terms.limits (after_events no_progress events).state served range → ⊥

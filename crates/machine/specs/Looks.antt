@@ -6,12 +6,13 @@ use Rattle.pool_types.specs.declared.values.Request.TheVariants.{Malloc, Aligned
 use Rattle.pool_types.specs.declared.policy.Limits.{Limits}
 use Rattle.pool_types.specs.declared.policy.RegionRec.{RegionRec}
 use Rattle.pool_types.specs.declared.rows.Keeper.TheVariants.{Seat, Orphan}
+use Rattle.pool_types.specs.Geometry.{granule_bytes, slab_granules, slab_bytes, bin_count}
 use Rattle.part_model.specs.declared.holders.Holder.TheVariants.{Rest, Private, Public, SlabCache}
 use Rattle.part_model.specs.declared.moves.Range.{Range}
 use Rattle.part_model.specs.Holding.{lies_in}
 use Rattle.size_classes.specs.declared.Served.{Served}
 use Rattle.size_classes.specs.declared.Served.TheVariants.{Small, Large, Bad}
-use Rattle.size_classes.specs.Served.{served_plain_at, served_at}
+use Rattle.size_classes.specs.Served.{served_plain, served}
 use Rattle.machine.specs.States.{State, Slab}
 use Rattle.machine.specs.Ranges.{IsIn, slab_range}
 use Rattle.machine.specs.Journal.{Look, Sight, Nothing_seen, Bins_seen, Callback_failed}
@@ -19,39 +20,47 @@ use Rattle.machine.specs.Lawful.{IsKeptOf}
 
 -- what the new object of a request is served as
 abbrev pub served_for : Request → Served
-served_for (Malloc size) = served_plain_at size
-served_for (Aligned size alignment) = served_at size alignment
-served_for (Realloc place size) = served_plain_at size
-served_for (AlignedRealloc place size alignment) = served_at size alignment
+served_for (Malloc size) = served_plain size
+served_for (Aligned size alignment) = served size alignment
+served_for (Realloc place size) = served_plain size
+served_for (AlignedRealloc place size alignment) = served size alignment
 served_for (Free place) = Bad
 served_for (Msize place) = Bad
 served_for (Identify place) = Bad
 served_for Exit = Bad
 
--- the bin of a block of so many bytes: one for each number of granules to 511, and the last for all above
+-- the last bin
+abbrev pub last_bin : ℕ
+last_bin = bin_count - 1
+
+-- the bin of a block of so many granules: one for each number of granules, and the last for all above
+abbrev pub bin_for : ℕ → ℕ
+bin_for granules = min granules bin_count - 1
+
+-- the bin of a block of so many bytes
 abbrev pub bin_of : ℕ → ℕ
-bin_of bytes = min (bytes / 8192) 512 - 1
+bin_of bytes = bin_for (bytes / granule_bytes)
 
 -- the first bin whose blocks can fit
 abbrev pub first_bin : Served → ℕ
-first_bin (Small class) = 1
-first_bin (Large granules alignment) = min granules 512 - 1
+first_bin (Small class) = bin_for slab_granules
+first_bin (Large granules alignment) = bin_for granules
 first_bin Bad = 0
 
--- a slab lies in the block: two granules, of which the first has an address that is a multiple of 16384
+-- a slab lies in the block: two granules, of which the first has an address that is a multiple of a slab's bytes
 pub record HasSlab (limits : Limits) (state : State) (block : Range) : Type 0 where
   pub region : RegionRec
   pub live : Contains state.regions region
   pub there : IsIn limits block.place region
   pub offset : ℕ
   pub above : block.place.offset ≤ offset
-  pub inside : offset + 16384 ≤ block.place.offset + block.bytes
-  pub even : (region.region.base + offset) % 16384 ≡ 0
+  pub inside : offset + slab_bytes ≤ block.place.offset + block.bytes
+  pub even : (region.region.base + offset) % slab_bytes ≡ 0
 
 -- the block fits
 abbrev pub Fits : Limits → State → Served → Range → Type 0
 Fits limits state (Small class) block = HasSlab limits state block
-Fits limits state (Large granules alignment) block = granules * 8192 ≤ block.bytes
+Fits limits state (Large granules alignment) block = granules * granule_bytes ≤ block.bytes
 Fits limits state Bad block = ⊥
 
 -- the blocks in the lists of the bins that a look is at
@@ -69,10 +78,10 @@ look_of state (Bins_seen look) = record { state = state; look = look } ∷ []
 look_of state Nothing_seen = []
 look_of state (Callback_failed bytes) = []
 
--- The looks are at the bins from this one to 511, at each once and in order. None of the blocks in their lists fits, and the number of
+-- The looks are at the bins from this one to the last, at each once and in order. None of the blocks in their lists fits, and the number of
 -- these blocks is `seen`.
 abbrev pub AreInVain : Limits → Served → ℕ → List Looked → ℕ → Type 0
-AreInVain limits served bin [] seen = (bin ≡ 512) × (seen ≡ 0)
+AreInVain limits served bin [] seen = (bin ≡ bin_count) × (seen ≡ 0)
 AreInVain limits served bin (looked ∷ rest) seen =
     (looked.look.first ≡ bin) × (bin ≤ looked.look.last)
     × ((block : Range) → Contains (blocks_seen looked.look) block → Fits limits looked.state served block → ⊥)

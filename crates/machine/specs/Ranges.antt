@@ -1,14 +1,16 @@
 -- The ranges of granules, of slabs and of their objects. Bytes are counted from the region's first byte.
-use Rattle.std.specs.Prelude.{◌≡◌, ℕ, ◌+◌, ◌-◌, ◌*◌, ◌%◌, ◌<◌, ◌≤◌, ◌&&◌, ◌==◌, Bool, nat_lt, List, [], ◌∷◌, map, Contains, Option}
+use Rattle.std.specs.Prelude.{◌≡◌, ℕ, ◌+◌, ◌*◌, ◌%◌, ◌<◌, ◌≤◌, ◌&&◌, ◌==◌, Bool, nat_lt, List, [], ◌∷◌, map, Contains, Option}
 use Rattle.std.specs.List.{list_any}
 use Rattle.pool_types.specs.declared.values.Place.{Place}
 use Rattle.pool_types.specs.declared.policy.Limits.{Limits}
 use Rattle.pool_types.specs.declared.policy.RegionRec.{RegionRec}
+use Rattle.pool_types.specs.Geometry.{granule_bytes, slab_granules, slab_bytes}
 use Rattle.part_model.specs.declared.holders.Holder.{Holder}
 use Rattle.part_model.specs.declared.moves.Range.{Range}
 use Rattle.part_model.specs.declared.moves.Part.{Part}
 use Rattle.part_model.specs.Holding.{same_region, lies_in, IsApart}
 use Rattle.size_classes.specs.Classes.{class_size, class_objects}
+use Rattle.size_classes.specs.Layout.{object_offset, head_bytes, rest_end}
 use Rattle.machine.specs.States.{State, Slab}
 
 -- the fact holds of each member of the list
@@ -26,8 +28,8 @@ abbrev pub range_at : Place → ℕ → ℕ → Range
 range_at place offset bytes = record { place = record { pool = place.pool; region = place.region; offset = offset }; bytes = bytes }
 
 -- some byte lies in both
-abbrev pub lies_across : Range → Range → Bool
-lies_across one other =
+abbrev pub overlaps : Range → Range → Bool
+overlaps one other =
     same_region one.place other.place
     && nat_lt one.place.offset (other.place.offset + other.bytes) && nat_lt other.place.offset (one.place.offset + one.bytes)
 
@@ -57,8 +59,8 @@ pub record IsGranules (limits : Limits) (state : State) (range : Range) (granule
   pub live : Contains state.regions region
   pub there : IsIn limits range.place region
   pub before : ℕ
-  pub starts : range.place.offset ≡ region.waste + before * 8192
-  pub bytes : range.bytes ≡ granules * 8192
+  pub starts : range.place.offset ≡ region.waste + before * granule_bytes
+  pub bytes : range.bytes ≡ granules * granule_bytes
   pub some : 0 < granules
   pub inside : before + granules ≤ region.granules
 
@@ -66,9 +68,9 @@ pub record IsGranules (limits : Limits) (state : State) (range : Range) (granule
 abbrev pub same_place : Place → Place → Bool
 same_place one other = same_region one other && (one.offset == other.offset)
 
--- the 16384 bytes of a slab that begins at the place
+-- the bytes of a slab that begins at the place
 abbrev pub slab_range : Place → Range
-slab_range place = range_at place place.offset 16384
+slab_range place = range_at place place.offset slab_bytes
 
 -- no slab of the book has a byte of the range
 abbrev pub IsOffBook : State → Range → Type 0
@@ -79,14 +81,10 @@ pub record IsBlock (limits : Limits) (state : State) (range : Range) (granules :
   pub whole : IsGranules limits state range granules
   pub free : IsOffBook state range
 
--- a slab can be here: two granules, of which the first has an address that is a multiple of 16384, that are in no slab of the book
+-- a slab can be here: two granules, of which the first has an address that is a multiple of a slab's bytes, that are in no slab of the book
 pub record IsSlabRoom (limits : Limits) (state : State) (place : Place) : Type 0 where
-  pub block : IsBlock limits state (slab_range place) 2
-  pub even : (block.whole.region.region.base + place.offset) % 16384 ≡ 0
-
--- how many bytes of a slab lie before its objects
-abbrev pub head_bytes : ℕ → ℕ
-head_bytes class = 16384 - class_objects class * class_size class
+  pub block : IsBlock limits state (slab_range place) slab_granules
+  pub even : (block.whole.region.region.base + place.offset) % slab_bytes ≡ 0
 
 -- what lies in a slab before its objects
 abbrev pub head_range : Place → ℕ → Range
@@ -98,11 +96,11 @@ objects_range place class = range_at place (place.offset + head_bytes class) (cl
 
 -- an object of a slab: they are counted from the slab's end
 abbrev pub object_range : Slab → ℕ → Range
-object_range slab object = range_at slab.place (slab.place.offset + (16384 - (object + 1) * class_size slab.class)) (class_size slab.class)
+object_range slab object = range_at slab.place (slab.place.offset + object_offset slab.class object) (class_size slab.class)
 
 -- what lies in a slab behind an object: the objects of lower count
 abbrev pub behind_object : Slab → ℕ → Range
-behind_object slab object = range_at slab.place (slab.place.offset + (16384 - object * class_size slab.class)) (object * class_size slab.class)
+behind_object slab object = range_at slab.place (slab.place.offset + rest_end slab.class object) (object * class_size slab.class)
 
 -- the slab is in the book and has an object of this count
 pub record IsObjectOf (state : State) (slab : Slab) (object : ℕ) : Type 0 where

@@ -5,9 +5,10 @@ use Rattle.std.specs.Bool.{OnTrue}
 use Rattle.pool_types.specs.declared.values.Place.{Place}
 use Rattle.pool_types.specs.declared.values.Request.{Request}
 use Rattle.pool_types.specs.declared.values.Answer.{Answer}
+use Rattle.pool_types.specs.Limits.{region_numbers}
 use Rattle.pool_types.specs.Policies.{IsAllowed}
 use Rattle.part_model.specs.declared.holders.Holder.TheVariants.{Waste, Bin, Hand, Cached}
-use Rattle.part_model.specs.declared.holders.Kind.TheVariants.{Bin as OfBin, LargeHead as OfLargeHead}
+use Rattle.part_model.specs.declared.holders.HolderKind.TheVariants.{Bin as OfBin, LargeHead as OfLargeHead}
 use Rattle.part_model.specs.declared.moves.Range.{Range}
 use Rattle.part_model.specs.declared.moves.Part.{Part}
 use Rattle.part_model.specs.Holding.{same_region, lies_in, AreApart, AreWhole, CanMoveAll}
@@ -16,7 +17,7 @@ use Rattle.size_classes.specs.declared.Served.{Served}
 use Rattle.size_classes.specs.declared.Served.TheVariants.{Small, Large, Bad}
 use Rattle.machine.specs.States.{Terms, State, nothing_yet}
 use Rattle.machine.specs.Ranges.{Each, AreDisjoint, IsGranules, lies_in_parts}
-use Rattle.machine.specs.Regions.{IsNextNumber, HasFreeRun, MayObtain, asked_bytes, asked_indices}
+use Rattle.machine.specs.Regions.{IsNextNumber, HasGap, MayObtain, asked_bytes, asked_indices}
 use Rattle.machine.specs.Journal.{Entry, Sight, Nothing_seen, Bins_seen, Callback_failed, is_object, after_entry}
 use Rattle.machine.specs.Lawful.{IsLawful, IsCut, large_head_range, large_object_range}
 use Rattle.machine.specs.Looks.{served_for, NoneFree, NoneWaits}
@@ -79,9 +80,9 @@ calls_after progress entry =
     if is_some entry.answer then filter (λ call. not (call.seat == entry.seat)) progress.calls
     else map (λ call. if call.seat == entry.seat then with_step progress.state entry call else call) progress.calls
 
--- the call is not alone
-abbrev pub joined_call : Call → Call
-joined_call call = record {
+-- the call once another begins: it is not alone
+abbrev pub after_other_begins : Call → Call
+after_other_begins call = record {
   seat = call.seat;
   request = call.request;
   before = call.before;
@@ -103,7 +104,7 @@ new_call progress seat request = record {
 abbrev pub after_begin : Progress → ℕ → Request → Progress
 after_begin progress seat request = record {
   state = progress.state;
-  calls = map joined_call progress.calls ++ new_call progress seat request ∷ [];
+  calls = map after_other_begins progress.calls ++ new_call progress seat request ∷ [];
   overlapped = progress.overlapped || has_any progress.calls;
   phase = progress.phase;
 }
@@ -139,15 +140,15 @@ IsWon progress seat block =
     (call : Call) × IsOtherCall progress seat call × Contains (map (λ part. part.range) (filter is_taken (moved_parts call.moments))) block
 
 -- a byte of the one range lies right before the other range, or right behind it
-abbrev pub Touches : Range → Range → Type 0
-Touches one other =
+abbrev pub Adjoins : Range → Range → Type 0
+Adjoins one other =
     (same_region one.place other.place ≡ true)
     × ((one.place.offset + one.bytes ≡ other.place.offset) ⊎ (other.place.offset + other.bytes ≡ one.place.offset))
 
 -- The lists of a look are those of the bins. Their blocks are whole granules and have no byte in common. Each is a block in bins, as it was
 -- put or as it was left, or another seat that is in a call has won it and not yet taken it out of its list. A byte in bins lies in one of
 -- them, unless another call that is open has put its block and perhaps not yet linked it. As long as no two calls were open at once, no
--- two blocks touch.
+-- two blocks adjoin.
 pub record AreLists (terms : Terms) (progress : Progress) (seat : ℕ) (lists : List Range) : Type 0 where
   pub whole : Each (λ block. (granules : ℕ) × IsGranules terms.limits progress.state block granules) lists
   pub disjoint : AreDisjoint lists
@@ -156,7 +157,7 @@ pub record AreLists (terms : Terms) (progress : Progress) (seat : ℕ) (lists : 
       ⊎ ((call : Call) × IsOtherCall progress seat call × (progress.state.held byte ≡ Some (Hand call.seat)))
   pub all : (byte : Place) → progress.state.held byte ≡ Some Bin →
       ((block : Range) × Contains lists block × (lies_in byte block ≡ true)) ⊎ IsJustPut progress seat byte
-  pub joined : progress.overlapped ≡ false → (one other : Range) → Contains lists one → Contains lists other → Touches one other → ⊥
+  pub joined : progress.overlapped ≡ false → (one other : Range) → Contains lists one → Contains lists other → Adjoins one other → ⊥
   pub blocks : (block : Range) → Contains lists block → Contains progress.state.blocks block ⊎ IsWon progress seat block
 
 -- A call scans the bins only where it has to. For a slab no slab of the class that its seat keeps has an object to give, and its slab
@@ -174,8 +175,8 @@ pub record IsAsked (terms : Terms) (state : State) (served : Served) (bytes : �
   pub may : MayObtain terms state
   pub number : ℕ
   pub next : IsNextNumber state number
-  pub below : number < 4194304
-  pub run : HasFreeRun terms state (asked_indices terms (granules_for served))
+  pub below : number < region_numbers
+  pub gap : HasGap terms state (asked_indices terms (granules_for served))
   pub exact : bytes ≡ asked_bytes terms (granules_for served)
 
 -- What a step found is so. That the callback failed is said where the callback is called: the machine doesn't have it.

@@ -1,10 +1,11 @@
 -- Which objects suit a request.
-use Rattle.std.specs.Prelude.{◌≡◌, ℕ, ◌+◌, ◌%◌, ◌≤◌, ◌==◌, nat_le, Bool, true, false, if◌then◌else◌, Contains, Option, None}
+use Rattle.std.specs.Prelude.{◌≡◌, ℕ, ◌+◌, ◌*◌, ◌%◌, ◌≤◌, ◌==◌, nat_le, Bool, true, false, if◌then◌else◌, Contains, Option, None}
 use Rattle.pool_types.specs.declared.values.Place.{Place}
 use Rattle.pool_types.specs.declared.values.Request.{Request}
 use Rattle.pool_types.specs.declared.values.Request.TheVariants.{Malloc, Aligned, Realloc, AlignedRealloc, Free, Msize, Identify, Exit}
 use Rattle.pool_types.specs.declared.policy.Limits.{Limits}
 use Rattle.pool_types.specs.declared.policy.RegionRec.{RegionRec}
+use Rattle.pool_types.specs.Geometry.{unit_bytes, largest_small, line_bytes}
 use Rattle.machine.specs.States.{State}
 use Rattle.machine.specs.Ranges.{IsIn}
 
@@ -41,13 +42,13 @@ place_to_free (Msize place) = None
 place_to_free (Identify place) = None
 place_to_free Exit = None
 
--- the least usable bytes that suit a size: a request for no bytes gets 8
+-- the least usable bytes that suit a size: a request for no bytes gets a unit
 abbrev pub least_usable : ℕ → ℕ
-least_usable size = if size == 0 then 8 else size
+least_usable size = if size == 0 then unit_bytes else size
 
 -- the alignment that a request without one may count on
 abbrev pub plain_alignment : ℕ → ℕ
-plain_alignment size = if nat_le size 8 then 8 else (if nat_le size 8128 then 16 else 64)
+plain_alignment size = if nat_le size unit_bytes then unit_bytes else (if nat_le size largest_small then 2 * unit_bytes else line_bytes)
 
 -- the alignment that suits a request
 abbrev pub alignment_of : Request → ℕ

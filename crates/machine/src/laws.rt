@@ -1,10 +1,10 @@
 //! Laws of the lawful moves and of runs. Each is what a function with an empty body ensures.
-ghost use Rattle.machine.specs.Laws.{StepsKeepOne, ApartStepsCommute, StepsFollow, GrantsAreFresh, RunsHaveOneHolder, RunsSum, RunsExist, LooksMissNone};
+ghost use Rattle.machine.specs.Laws.{StepsKeepOneHolder, ApartStepsCommute, TotalsFollowSteps, GrantsAreFresh, RunsHaveOneHolder, RunsSumToTheirRegions, RunsExist, LooksMissNone};
 
 /// A step keeps exactly one holder a byte: a byte of the pool has one afterwards, but where the step takes it out of the
 /// pool, and a byte that wasn't in the pool has one exactly where the step brings it in.
 pub fn steps_keep_one_holder()
-    ensures { StepsKeepOne }
+    ensures { StepsKeepOneHolder }
 {}
 
 /// Two steps whose moves are over ranges that are apart commute: each move can be made after the other, and it is all one
@@ -15,7 +15,7 @@ pub fn apart_steps_commute()
 
 /// The totals follow a step: the count of a kind of holder loses the bytes that leave it and gains those that come to it.
 pub fn totals_follow_steps()
-    ensures { StepsFollow }
+    ensures { TotalsFollowSteps }
 {}
 
 /// An object that is granted was no object's: its bytes were rest, private or in the hand of the seat that grants, and its
@@ -32,7 +32,7 @@ pub fn runs_have_one_holder()
 /// In a run the totals of all kinds of holders sum to the bytes of the live regions, at any time: each region has as many
 /// bytes with a holder as its record says.
 pub fn runs_sum_to_their_regions()
-    ensures { RunsSum }
+    ensures { RunsSumToTheirRegions }
 {}
 
 /// There are runs: one in which an object is granted, and one in which it is refused.

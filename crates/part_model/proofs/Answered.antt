@@ -7,7 +7,7 @@ use Rattle.part_model.specs.declared.holders.Holder.{Holder}
 use Rattle.part_model.specs.declared.moves.Part.{Part}
 use Rattle.part_model.specs.declared.partition.ApplyError.TheVariants.{Unlawful, NoMemory}
 use Rattle.part_model.specs.Holding.{Holding, CanMove, CanMoveAll, IsFirstRefused, IsRefusedAt}
-use Rattle.part_model.specs.Laws.{OneAnswer}
+use Rattle.part_model.specs.Laws.{MovesAnswerOnce}
 use Rattle.part_model.proofs.Ranges.{lies_in-parts, place_is}
 
 -- a part that can be made has no byte in the way
@@ -53,14 +53,14 @@ refused_is_one seat held (part ∷ parts) byte byte' there there' wanted wanted'
     refused_is_one seat held parts byte byte' there there' wanted wanted' later later'
 
 -- two answers to one move are one, but for want of memory
-pub one_answer : OneAnswer
-one_answer seat held parts (Ok done) (Ok done') one two some some' = refl
-one_answer seat held parts (Ok done) (Err NoMemory) one two some some' = absurd (some' refl)
-one_answer seat held parts (Ok done) (Err (Unlawful byte there wanted)) one two some some' = absurd (none_refused seat held parts byte there wanted one two)
-one_answer seat held parts (Err NoMemory) other one two some some' = absurd (some refl)
-one_answer seat held parts (Err (Unlawful byte there wanted)) (Ok done) one two some some' = absurd (none_refused seat held parts byte there wanted two one)
-one_answer seat held parts (Err (Unlawful byte there wanted)) (Err NoMemory) one two some some' = absurd (some' refl)
-one_answer seat held parts (Err (Unlawful byte there wanted)) (Err (Unlawful byte' there' wanted')) one two some some' =
+pub moves_answer_once : MovesAnswerOnce
+moves_answer_once seat held parts (Ok done) (Ok done') one two some some' = refl
+moves_answer_once seat held parts (Ok done) (Err NoMemory) one two some some' = absurd (some' refl)
+moves_answer_once seat held parts (Ok done) (Err (Unlawful byte there wanted)) one two some some' = absurd (none_refused seat held parts byte there wanted one two)
+moves_answer_once seat held parts (Err NoMemory) other one two some some' = absurd (some refl)
+moves_answer_once seat held parts (Err (Unlawful byte there wanted)) (Ok done) one two some some' = absurd (none_refused seat held parts byte there wanted two one)
+moves_answer_once seat held parts (Err (Unlawful byte there wanted)) (Err NoMemory) one two some some' = absurd (some' refl)
+moves_answer_once seat held parts (Err (Unlawful byte there wanted)) (Err (Unlawful byte' there' wanted')) one two some some' =
     let same = refused_is_one seat held parts byte byte' there there' wanted wanted' one two in
     let byte_is = same.0 in
     let there_is = same.1 in

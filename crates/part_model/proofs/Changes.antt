@@ -2,7 +2,7 @@
 use Rattle.std.proofs.Common.{◌++◌, ◌≡◌, ◌⊎◌, ℕ, inl, inr, List, [], ◌∷◌, Some, None, Bool, true, false, ◌&&◌, ◌||◌, not, refl, sym, ◌∙◌, ap, arith}
 use Rattle.std.specs.Prelude.{if◌then◌else◌, count_by}
 use Rattle.std.specs.declared.option.Option.{Option}
-use Rattle.std.proofs.lemmas.Bool.{cases_Bool}
+use Rattle.std.proofs.lemmas.Bool.{cases_Bool, or_parts, or_from, or_left, or_right}
 use Rattle.pool_types.specs.declared.values.Place.{Place}
 use Rattle.part_model.specs.declared.holders.Holder.{Holder}
 use Rattle.part_model.specs.declared.holders.Holder.TheVariants.{Waste, Head, Rest, Private, Public, Object, LargeHead, SlabCache, Cached, Bin, Queue, Hand}
@@ -11,7 +11,7 @@ use Rattle.part_model.specs.declared.moves.Part.{Part}
 use Rattle.part_model.specs.Lawful.{is_lawful_pair}
 use Rattle.part_model.specs.Holding.{Holding, lies_in, after_part, after_parts, IsApartFromAll, AreApart, CanMoveAll}
 use Rattle.part_model.specs.Totals.{is_at, has_holder}
-use Rattle.part_model.specs.Laws.{kinds, holders_of, brings, takes, OneHolder, AreApartFrom, ApartCommute}
+use Rattle.part_model.specs.Laws.{holder_kinds, holders_of, brings, takes, MovesKeepOneHolder, AreApartFrom, ApartMovesCommute}
 
 -- one part, inside and outside of its range
 pub after_part-inside : (held : Holding) (part : Part) (byte : Place) → lies_in byte part.range ≡ true → after_part held part byte ≡ part.to
@@ -42,20 +42,12 @@ after_parts-outside held [] byte outside = refl
 after_parts-outside held (part ∷ parts) byte outside =
     let both = or_parts (lies_in byte part.range) (lies_in_any byte parts) outside in
     after_parts-outside (after_part held part) parts byte both.1 ∙ after_part-outside held part byte both.0
-  where
-    or_parts : (x y : Bool) → (x || y) ≡ false → (x ≡ false) × (y ≡ false)
-    or_parts false y none = (refl, none)
-    or_parts true y none = absurd (let e = none in cc)
 
 -- a byte of a range lies in no part that is apart from it, and the other way round
 pub apart_outside : (range : Range) (parts : List Part) (byte : Place) → IsApartFromAll range parts → lies_in byte range ≡ true → lies_in_any byte parts ≡ false
 apart_outside range [] byte apart inside = refl
 apart_outside range (part ∷ parts) byte (first, rest) inside =
-    neither (lies_in byte part.range) (lies_in_any byte parts) (first byte inside) (apart_outside range parts byte rest inside)
-  where
-    neither : (x y : Bool) → x ≡ false → y ≡ false → (x || y) ≡ false
-    neither false y a b = b
-    neither true y a b = absurd (let e = a in cc)
+    or_from (lies_in byte part.range) (lies_in_any byte parts) (first byte inside) (apart_outside range parts byte rest inside)
 
 pub outside_apart : (range : Range) (parts : List Part) (byte : Place) → IsApartFromAll range parts → lies_in_any byte parts ≡ true → lies_in byte range ≡ false
 outside_apart range parts byte apart inside =
@@ -69,17 +61,9 @@ pub can_move-same : (seat : ℕ) (one other : Holding) (parts : List Part) → (
     CanMoveAll seat one parts → CanMoveAll seat other parts
 can_move-same seat one other [] same can = tt
 can_move-same seat one other (part ∷ parts) same (first, rest) = (
-  record { lawful = first.lawful; there = λ byte inside. same byte (in_first (lies_in byte part.range) (lies_in_any byte parts) inside) ∙ first.there byte inside },
-  can_move-same seat one other parts (λ byte inside. same byte (in_rest (lies_in byte part.range) (lies_in_any byte parts) inside)) rest,
+  record { lawful = first.lawful; there = λ byte inside. same byte (or_left (lies_in byte part.range) (lies_in_any byte parts) inside) ∙ first.there byte inside },
+  can_move-same seat one other parts (λ byte inside. same byte (or_right (lies_in byte part.range) (lies_in_any byte parts) inside)) rest,
 )
-  where
-    in_first : (x y : Bool) → x ≡ true → (x || y) ≡ true
-    in_first true y e = refl
-    in_first false y e = absurd (let e' = e in cc)
-
-    in_rest : (x y : Bool) → y ≡ true → (x || y) ≡ true
-    in_rest true y e = refl
-    in_rest false y e = e
 
 -- after a part, those that are apart from it can be moved as before
 pub can_move-after_part : (seat : ℕ) (held : Holding) (part : Part) (parts : List Part) → IsApartFromAll part.range parts → CanMoveAll seat held parts → CanMoveAll seat (after_part held part) parts
@@ -90,11 +74,7 @@ can_move-after_part seat held part parts apart can =
 pub apart_from_outside : (one other : List Part) (byte : Place) → AreApartFrom one other → lies_in_any byte other ≡ true → lies_in_any byte one ≡ false
 apart_from_outside [] other byte apart inside = refl
 apart_from_outside (part ∷ parts) other byte (first, rest) inside =
-    neither (lies_in byte part.range) (lies_in_any byte parts) (outside_apart part.range other byte first inside) (apart_from_outside parts other byte rest inside)
-  where
-    neither : (x y : Bool) → x ≡ false → y ≡ false → (x || y) ≡ false
-    neither false y a b = b
-    neither true y a b = absurd (let e = a in cc)
+    or_from (lies_in byte part.range) (lies_in_any byte parts) (outside_apart part.range other byte first inside) (apart_from_outside parts other byte rest inside)
 
 pub apart_from_inside : (one other : List Part) (byte : Place) → AreApartFrom one other → lies_in_any byte one ≡ true → lies_in_any byte other ≡ false
 apart_from_inside one other byte apart inside =
@@ -104,8 +84,8 @@ apart_from_inside one other byte apart inside =
     ]
 
 -- two moves over ranges that are apart
-pub moves_apart : ApartCommute
-moves_apart held one other apart = record {
+pub apart_moves_commute : ApartMovesCommute
+apart_moves_commute held one other apart = record {
   first = λ seat. (
     can_move-same seat held (after_parts held other) one (λ byte inside. after_parts-outside held other byte (apart_from_inside one other byte apart inside)),
     can_move-same seat (after_parts held other) held one (λ byte inside. sym (after_parts-outside held other byte (apart_from_inside one other byte apart inside))),
@@ -168,7 +148,7 @@ at_part seat held (part ∷ parts) byte (first, rest) (can, can_rest) =
           })
       | inr outside ↦
           elim (at_part seat (after_part held part) parts byte rest (can_move-after_part seat held part parts first can_rest)) [
-            | inl none ↦ inl (neither (lies_in byte part.range) (lies_in_any byte parts) outside none)
+            | inl none ↦ inl (or_from (lies_in byte part.range) (lies_in_any byte parts) outside none)
             | inr later ↦ inr (record {
               part = later.part;
               lawful = later.lawful;
@@ -189,29 +169,25 @@ at_part seat held (part ∷ parts) byte (first, rest) (can, can_rest) =
     other false y z e = refl
     other true y z e = absurd (let e' = e in cc)
 
-    neither : (x y : Bool) → x ≡ false → y ≡ false → (x || y) ≡ false
-    neither false y a b = b
-    neither true y a b = absurd (let e = a in cc)
-
 -- a holder is of one kind, and nobody of none
-pub kinds-one : (holder : Option Holder) → count_by (λ kind. is_at kind holder) kinds ≡ (if has_holder holder then 1 else 0)
-kinds-one None = refl
-kinds-one (Some Waste) = refl
-kinds-one (Some Head) = refl
-kinds-one (Some Rest) = refl
-kinds-one (Some Private) = refl
-kinds-one (Some Public) = refl
-kinds-one (Some (Object grant)) = refl
-kinds-one (Some (LargeHead grant)) = refl
-kinds-one (Some (SlabCache seat)) = refl
-kinds-one (Some (Cached granules)) = refl
-kinds-one (Some Bin) = refl
-kinds-one (Some Queue) = refl
-kinds-one (Some (Hand seat)) = refl
+pub holder_kinds-one : (holder : Option Holder) → count_by (λ kind. is_at kind holder) holder_kinds ≡ (if has_holder holder then 1 else 0)
+holder_kinds-one None = refl
+holder_kinds-one (Some Waste) = refl
+holder_kinds-one (Some Head) = refl
+holder_kinds-one (Some Rest) = refl
+holder_kinds-one (Some Private) = refl
+holder_kinds-one (Some Public) = refl
+holder_kinds-one (Some (Object grant)) = refl
+holder_kinds-one (Some (LargeHead grant)) = refl
+holder_kinds-one (Some (SlabCache seat)) = refl
+holder_kinds-one (Some (Cached granules)) = refl
+holder_kinds-one (Some Bin) = refl
+holder_kinds-one (Some Queue) = refl
+holder_kinds-one (Some (Hand seat)) = refl
 
 -- whether the byte has a holder, as a number
 pub holders_of-is : (held : Holding) (byte : Place) (holder : Option Holder) → held byte ≡ holder → holders_of held byte ≡ (if has_holder holder then 1 else 0)
-holders_of-is held byte holder is = kinds-one (held byte) ∙ ap (λ h. if has_holder h then 1 else 0) is
+holders_of-is held byte holder is = holder_kinds-one (held byte) ∙ ap (λ h. if has_holder h then 1 else 0) is
 
 -- nobody's bytes that stay nobody's make no move
 pub pair_is_held : (seat : ℕ) (from to : Option Holder) → is_lawful_pair seat from to ≡ true → (has_holder from || has_holder to) ≡ true
@@ -220,11 +196,11 @@ pair_is_held seat None (Some to) lawful = refl
 pair_is_held seat (Some from) to lawful = refl
 
 -- each byte after a lawful move
-pub one_holder : OneHolder
-one_holder seat held parts apart can byte =
+pub moves_keep_one_holder : MovesKeepOneHolder
+moves_keep_one_holder seat held parts apart can byte =
     elim (at_part seat held parts byte apart can) [
       | inl outside ↦
-          let same = ap (λ h. count_by (λ kind. is_at kind h) kinds) (after_parts-outside held parts byte outside) in
+          let same = ap (λ h. count_by (λ kind. is_at kind h) holder_kinds) (after_parts-outside held parts byte outside) in
           let not_brought = brings-outside parts byte outside in
           let not_taken = takes-outside parts byte outside in
           record {

@@ -1,8 +1,9 @@
 pub mod Ranges
-pub mod RunLemmas
+pub mod StretchLemmas
 pub mod Apart
 pub mod Changes
 pub mod Sums
 pub mod Counts
 pub mod MoveCounts
 pub mod Answered
+pub mod CallerLemmas

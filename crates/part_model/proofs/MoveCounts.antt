@@ -8,14 +8,16 @@ use Rattle.std.proofs.lemmas.List.Elements.{All-tail}
 use Rattle.std.proofs.lemmas.List.Sums.{sum_by-cons}
 use Rattle.pool_types.specs.declared.values.Place.{Place}
 use Rattle.part_model.specs.declared.holders.Holder.{Holder}
-use Rattle.part_model.specs.declared.holders.Kind.{Kind}
+use Rattle.part_model.specs.declared.holders.HolderKind.{HolderKind}
 use Rattle.part_model.specs.declared.moves.Part.{Part}
 use Rattle.part_model.specs.Holding.{Holding, lies_in, after_part, after_parts, AreApart, AreWhole, IsWhole, CanMoveAll}
-use Rattle.part_model.specs.Totals.{is_region, sum_below, sum_regions, place_at, region_bytes, is_at, has_holder, bytes_at, bytes_held, is_live}
-use Rattle.part_model.specs.Laws.{IsWithin, region_from, region_to, LiveFollow, kinds, IsPlaced, bytes_from, bytes_to, TotalsFollow, live_bytes, TotalsSum}
-use Rattle.part_model.proofs.Changes.{can_move-after_part, kinds-one}
-use Rattle.part_model.proofs.Sums.{sum_below-same, sum_below-add, sum_below-none, sum_regions-same, sum_regions-add, sum_regions-none, sum_regions-one}
+use Rattle.part_model.specs.Totals.{is_region, sum_regions, place_at, region_bytes, is_at, has_holder, bytes_at, bytes_held, is_live}
+use Rattle.part_model.specs.Laws.{IsWithin, region_from, region_to, RegionsFollowMoves, holder_kinds, IsPlaced, bytes_from, bytes_to, TotalsFollowMoves, live_bytes, TotalsSum}
+use Rattle.part_model.proofs.Changes.{can_move-after_part, holder_kinds-one}
+use Rattle.part_model.proofs.Sums.{sum_regions-same, sum_regions-add, sum_regions-none, sum_regions-one}
 use Rattle.part_model.proofs.Counts.{span_bytes}
+use Rattle.list_laws.specs.Sums.{sum_below}
+use Rattle.list_laws.proofs.Sums.{sum_below-same, sum_below-add, sum_below-none}
 
 -- the bytes of a region after one part
 pub region_bytes-part : (test : Option Holder → Bool) (held : Holding) (part : Part) (pool region : ℕ) → IsWhole part.range →
@@ -69,7 +71,7 @@ bytes-parts test seat held (part ∷ parts) (first, apart) whole placed (can, ca
     omega (arith, one, rest, from, to)
 
 -- the bytes at several kinds of holders
-pub kinds_bytes : (held : Holding) (ks : List Kind) →
+pub kinds_bytes : (held : Holding) (ks : List HolderKind) →
     sum_by (λ kind. bytes_at kind held) ks ≡ sum_regions (λ p r. sum_below (λ o. count_by (λ kind. is_at kind (held (place_at p r o))) ks) (2 ^ 64))
 unfolding region_bytes
 kinds_bytes held [] = sym (sum_regions-none (λ p r. sum_below (λ o. 0) (2 ^ 64)) (λ p r. sum_below-none (λ o. 0) (2 ^ 64) (λ o below. refl)))
@@ -86,14 +88,14 @@ kinds_bytes held (kind ∷ ks) =
     omega (arith, rest, cons, add, same)
 
 -- all kinds together are all bytes
-pub kinds_all : (held : Holding) → sum_by (λ kind. bytes_at kind held) kinds ≡ bytes_held held
+pub kinds_all : (held : Holding) → sum_by (λ kind. bytes_at kind held) holder_kinds ≡ bytes_held held
 unfolding region_bytes
 kinds_all held =
-    kinds_bytes held kinds
-    ∙ sum_regions-same (λ p r. sum_below (λ o. count_by (λ kind. is_at kind (held (place_at p r o))) kinds) (2 ^ 64)) (region_bytes has_holder held)
+    kinds_bytes held holder_kinds
+    ∙ sum_regions-same (λ p r. sum_below (λ o. count_by (λ kind. is_at kind (held (place_at p r o))) holder_kinds) (2 ^ 64)) (region_bytes has_holder held)
     (λ p r in_pool in_region.
-    sum_below-same (λ o. count_by (λ kind. is_at kind (held (place_at p r o))) kinds) (λ o. if has_holder (held (place_at p r o)) then 1 else 0) (2 ^ 64)
-    (λ o below. kinds-one (held (place_at p r o))))
+    sum_below-same (λ o. count_by (λ kind. is_at kind (held (place_at p r o))) holder_kinds) (λ o. if has_holder (held (place_at p r o)) then 1 else 0) (2 ^ 64)
+    (λ o below. holder_kinds-one (held (place_at p r o))))
 
 -- a region that isn't live has no bytes
 pub bytes_live : (held : Holding) → bytes_held held ≡ live_bytes held
@@ -104,11 +106,11 @@ bytes_live held =
     itself : (n : ℕ) → n ≡ (if nat_lt 0 n then n else 0)
     itself n = grind (arith, nat_tests)
 
-pub totals_sum_is : TotalsSum
-totals_sum_is held = (let all = kinds_all held in omega (arith, all), bytes_live held)
+pub totals_sum : TotalsSum
+totals_sum held = (let all = kinds_all held in omega (arith, all), bytes_live held)
 
-pub totals_follow_is : TotalsFollow
-totals_follow_is seat held parts apart whole placed can =
+pub totals_follow_moves : TotalsFollowMoves
+totals_follow_moves seat held parts apart whole placed can =
     let follows : (test : Option Holder → Bool) → sum_regions (region_bytes test (after_parts held parts)) + bytes_from test parts ≡ sum_regions (region_bytes test held) + bytes_to test parts
     = λ test. bytes-parts test seat held parts apart whole placed can in
     record {
@@ -178,8 +180,8 @@ of_no_other pool region p r parts all other k d below =
         let region_is = eqb-true region b both.1 in
         ap (λ x. (p == x) && (r == b)) (sym pool_is) ∙ ap (λ x. (p == pool) && (r == x)) (sym region_is) ∙ other
 
-pub live_follow_is : LiveFollow
-live_follow_is seat held parts apart whole can =
+pub regions_follow_moves : RegionsFollowMoves
+regions_follow_moves seat held parts apart whole can =
     let bytes = λ (pool region : ℕ). region_bytes-parts seat held parts pool region apart whole can in
     record {
       bytes = bytes;

@@ -3,8 +3,8 @@ use Rattle.std.specs.Prelude.{Result, Err, ◌≢◌, ◌≡◌, ◌↔◌, ℕ,
 use Rattle.std.specs.declared.option.Option.{Option}
 use Rattle.pool_types.specs.declared.values.Place.{Place}
 use Rattle.part_model.specs.declared.holders.Holder.{Holder}
-use Rattle.part_model.specs.declared.holders.Kind.{Kind}
-use Rattle.part_model.specs.declared.holders.Kind.TheVariants.{Waste, Head, Rest, Private, Public, Object, LargeHead, SlabCache, Cached, Bin, Queue, Hand}
+use Rattle.part_model.specs.declared.holders.HolderKind.{HolderKind}
+use Rattle.part_model.specs.declared.holders.HolderKind.TheVariants.{Waste, Head, Rest, Private, Public, Object, LargeHead, SlabCache, Cached, Bin, Queue, Hand}
 use Rattle.part_model.specs.declared.moves.Part.{Part}
 use Rattle.part_model.specs.declared.partition.ApplyError.{ApplyError}
 use Rattle.part_model.specs.declared.partition.ApplyError.TheVariants.{NoMemory}
@@ -14,18 +14,18 @@ use Rattle.part_model.specs.Holding.{Holding, lies_in, after_parts, IsApartFromA
 use Rattle.part_model.specs.Totals.{is_at, has_holder, is_region, regions_held, region_bytes, sum_regions, is_live, totals_of}
 
 -- A holding and a move determine what the move answers, but for want of memory.
-abbrev pub OneAnswer : Type 0
-OneAnswer = (seat : ℕ) (held : Holding) (parts : List Part) (one other : Result Unit ApplyError) →
+abbrev pub MovesAnswerOnce : Type 0
+MovesAnswerOnce = (seat : ℕ) (held : Holding) (parts : List Part) (one other : Result Unit ApplyError) →
     Answers seat parts held one → Answers seat parts held other → one ≢ Err NoMemory → other ≢ Err NoMemory → one ≡ other
 
 -- all kinds of holders
-abbrev pub kinds : List Kind
-kinds =
+abbrev pub holder_kinds : List HolderKind
+holder_kinds =
     Waste ∷ Head ∷ Rest ∷ Private ∷ Public ∷ Object ∷ LargeHead ∷ SlabCache ∷ Cached ∷ Bin ∷ Queue ∷ Hand ∷ []
 
 -- at how many kinds of holders the byte is
 abbrev pub holders_of : Holding → Place → ℕ
-holders_of held byte = count_by (λ kind. is_at kind (held byte)) kinds
+holders_of held byte = count_by (λ kind. is_at kind (held byte)) holder_kinds
 
 -- a part brings the byte into the pool
 abbrev pub brings : List Part → Place → Bool
@@ -46,8 +46,8 @@ pub record KeepsOneHolder (old new : Holding) (parts : List Part) (byte : Place)
   pub none : holders_of old byte ≡ 0 → brings parts byte ≡ false → holders_of new byte ≡ 0
 
 -- a lawful move keeps exactly one holder a byte
-abbrev pub OneHolder : Type 0
-OneHolder = (seat : ℕ) (held : Holding) (parts : List Part) → AreApart parts → CanMoveAll seat held parts →
+abbrev pub MovesKeepOneHolder : Type 0
+MovesKeepOneHolder = (seat : ℕ) (held : Holding) (parts : List Part) → AreApart parts → CanMoveAll seat held parts →
     (byte : Place) → KeepsOneHolder held (after_parts held parts) parts byte
 
 -- no byte lies in a part of the one and in a part of the other
@@ -62,8 +62,8 @@ pub record Commute (held : Holding) (one other : List Part) : Type 0 where
   pub same : (byte : Place) → after_parts (after_parts held one) other byte ≡ after_parts (after_parts held other) one byte
 
 -- two moves over ranges that are apart commute
-abbrev pub ApartCommute : Type 0
-ApartCommute = (held : Holding) (one other : List Part) → AreApartFrom one other → Commute held one other
+abbrev pub ApartMovesCommute : Type 0
+ApartMovesCommute = (held : Holding) (one other : List Part) → AreApartFrom one other → Commute held one other
 
 -- the pool's and the region's number of the part have 16 and 32 bits
 pub record IsPlaced (part : Part) : Type 0 where
@@ -94,8 +94,8 @@ pub record Follows (old new : Totals) (parts : List Part) : Type 0 where
   pub hand : new.hand + bytes_from (is_at Hand) parts ≡ old.hand + bytes_to (is_at Hand) parts
 
 -- the totals follow a lawful move
-abbrev pub TotalsFollow : Type 0
-TotalsFollow = (seat : ℕ) (held : Holding) (parts : List Part) →
+abbrev pub TotalsFollowMoves : Type 0
+TotalsFollowMoves = (seat : ℕ) (held : Holding) (parts : List Part) →
     AreApart parts → AreWhole parts → All IsPlaced parts → CanMoveAll seat held parts →
     Follows (totals_of held) (totals_of (after_parts held parts)) parts
 
@@ -124,8 +124,8 @@ pub record RegionsFollow (old new : Holding) (parts : List Part) : Type 0 where
       ≡ regions_held old + (if is_live new pool region then 1 else 0)
 
 -- the live regions follow a lawful move
-abbrev pub LiveFollow : Type 0
-LiveFollow = (seat : ℕ) (held : Holding) (parts : List Part) →
+abbrev pub RegionsFollowMoves : Type 0
+RegionsFollowMoves = (seat : ℕ) (held : Holding) (parts : List Part) →
     AreApart parts → AreWhole parts → CanMoveAll seat held parts →
     RegionsFollow held (after_parts held parts) parts
 

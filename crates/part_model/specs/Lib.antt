@@ -1,6 +1,6 @@
 pub mod Lawful
 pub mod Holding
 pub mod Apply
-pub mod Runs
+pub mod Stretches
 pub mod Totals
 pub mod Laws

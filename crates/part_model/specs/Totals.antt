@@ -1,18 +1,18 @@
 -- How many bytes each kind of holder has. All is counted byte by byte, over every number that a place can have.
-use Rattle.std.specs.Prelude.{◌==◌, ◌&&◌, ℕ, ◌+◌, ◌^◌, Bool, true, false, nat_lt, if◌then◌else◌, Some, None}
+use Rattle.std.specs.Prelude.{◌==◌, ◌&&◌, ℕ, ◌^◌, Bool, true, false, nat_lt, if◌then◌else◌, Some, None}
 use Rattle.std.specs.declared.option.Option.{Option}
-use Prim.Native.Nat.{zero, suc}
+use Rattle.list_laws.specs.Sums.{sum_below}
 use Rattle.pool_types.specs.declared.values.Place.{Place}
 use Rattle.part_model.specs.declared.holders.Holder.{Holder}
 use Rattle.part_model.specs.declared.holders.Holder.TheVariants.{Waste, Head, Rest, Private, Public, Object, LargeHead, SlabCache, Cached, Bin, Queue, Hand}
-use Rattle.part_model.specs.declared.holders.Kind.{Kind}
-use Rattle.part_model.specs.declared.holders.Kind.TheVariants.{Waste as OfWaste, Head as OfHead, Rest as OfRest, Private as OfPrivate, Public as OfPublic, Object as OfObject, LargeHead as OfLargeHead, SlabCache as OfSlabCache, Cached as OfCached, Bin as OfBin, Queue as OfQueue, Hand as OfHand}
+use Rattle.part_model.specs.declared.holders.HolderKind.{HolderKind}
+use Rattle.part_model.specs.declared.holders.HolderKind.TheVariants.{Waste as OfWaste, Head as OfHead, Rest as OfRest, Private as OfPrivate, Public as OfPublic, Object as OfObject, LargeHead as OfLargeHead, SlabCache as OfSlabCache, Cached as OfCached, Bin as OfBin, Queue as OfQueue, Hand as OfHand}
 use Rattle.part_model.specs.declared.moves.Range.{Range}
 use Rattle.part_model.specs.declared.totals.Totals.{Totals}
 use Rattle.part_model.specs.Holding.{Holding}
 
 -- the holder is of the kind
-abbrev pub is_at : Kind → Option Holder → Bool
+abbrev pub is_at : HolderKind → Option Holder → Bool
 is_at OfWaste (Some Waste) = true
 is_at OfHead (Some Head) = true
 is_at OfRest (Some Rest) = true
@@ -32,11 +32,6 @@ abbrev pub has_holder : Option Holder → Bool
 has_holder None = false
 has_holder (Some holder) = true
 
--- the sum of a function over the first numbers
-unfoldable pub sum_below : (ℕ → ℕ) → ℕ → ℕ
-sum_below f zero = 0
-sum_below f (suc n) = sum_below f n + f n
-
 -- the numbers are those of the range's region
 abbrev pub is_region : ℕ → ℕ → Range → Bool
 is_region pool region range = (pool == range.place.pool) && (region == range.place.region)
@@ -55,7 +50,7 @@ unfoldable pub sum_regions : (ℕ → ℕ → ℕ) → ℕ
 sum_regions f = sum_below (λ pool. sum_below (f pool) (2 ^ 32)) (2 ^ 16)
 
 -- how many bytes are at a holder of the kind
-abbrev pub bytes_at : Kind → Holding → ℕ
+abbrev pub bytes_at : HolderKind → Holding → ℕ
 bytes_at kind held = sum_regions (region_bytes (is_at kind) held)
 
 -- how many bytes have a holder: these are the bytes of the live regions

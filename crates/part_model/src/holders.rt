@@ -36,7 +36,7 @@ pub enum Holder {
 
 /// What a holder is, without the names and numbers that it bears.
 #[derive(Clone, Copy, Debug, PartialEq, Eq)]
-pub enum Kind {
+pub enum HolderKind {
     Waste,
     Head,
     Rest,
@@ -53,29 +53,29 @@ pub enum Kind {
 
 impl Holder {
     /// Whether it is of this kind.
-    pub fn is(self, kind: Kind) -> bool
+    pub fn is(self, kind: HolderKind) -> bool
         ensures { result ≡ is_at kind (Some self) }
     {
         match (kind, self) {
-            (Kind::Waste, Holder::Waste) => true,
-            (Kind::Head, Holder::Head) => true,
-            (Kind::Rest, Holder::Rest) => true,
-            (Kind::Private, Holder::Private) => true,
-            (Kind::Public, Holder::Public) => true,
-            (Kind::Object, Holder::Object(_)) => true,
-            (Kind::LargeHead, Holder::LargeHead(_)) => true,
-            (Kind::SlabCache, Holder::SlabCache(_)) => true,
-            (Kind::Cached, Holder::Cached(_)) => true,
-            (Kind::Bin, Holder::Bin) => true,
-            (Kind::Queue, Holder::Queue) => true,
-            (Kind::Hand, Holder::Hand(_)) => true,
+            (HolderKind::Waste, Holder::Waste) => true,
+            (HolderKind::Head, Holder::Head) => true,
+            (HolderKind::Rest, Holder::Rest) => true,
+            (HolderKind::Private, Holder::Private) => true,
+            (HolderKind::Public, Holder::Public) => true,
+            (HolderKind::Object, Holder::Object(_)) => true,
+            (HolderKind::LargeHead, Holder::LargeHead(_)) => true,
+            (HolderKind::SlabCache, Holder::SlabCache(_)) => true,
+            (HolderKind::Cached, Holder::Cached(_)) => true,
+            (HolderKind::Bin, Holder::Bin) => true,
+            (HolderKind::Queue, Holder::Queue) => true,
+            (HolderKind::Hand, Holder::Hand(_)) => true,
             _ => false,
         }
     }
 }
 
 /// Whether a seat may ever move bytes from the one holder to the other.
-pub(crate) fn is_lawful(seat: u8, from: Option<Holder>, to: Option<Holder>) -> bool
+pub(crate) fn is_lawful_pair(seat: u8, from: Option<Holder>, to: Option<Holder>) -> bool
     ensures { result ≡ is_lawful_pair seat from to }
 {
     match (from, to) {

@@ -5,13 +5,15 @@
 #![tactic(auto)]
 
 pub mod holders;
+pub mod journal;
 pub mod laws;
 pub mod moves;
 pub mod partition;
-mod runs;
+mod stretches;
 pub mod totals;
 
-pub use holders::{Holder, Kind};
+pub use holders::{Holder, HolderKind};
+pub use journal::Journaled;
 pub use moves::{Move, Part, Range};
 pub use partition::{ApplyError, Partition};
 pub use totals::Totals;

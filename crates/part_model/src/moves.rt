@@ -40,7 +40,7 @@ impl Move {
 }
 
 /// Whether both lie in one region of one pool.
-pub(crate) fn is_same_region(one: &Place, other: &Place) -> bool
+pub(crate) fn same_region(one: &Place, other: &Place) -> bool
     ensures { result ≡ same_region one.now other.now }
 {
     one.pool == other.pool && one.region == other.region
@@ -71,7 +71,7 @@ fn is_apart(one: &Range, other: &Range) -> bool
     requires other { IsWhole other.now }
     ensures { IsTrue result ↔ IsApart one.now other.now }
 {
-    !is_same_region(&one.place, &other.place)
+    !same_region(&one.place, &other.place)
         || one.place.offset + one.bytes <= other.place.offset
         || other.place.offset + other.bytes <= one.place.offset
 }

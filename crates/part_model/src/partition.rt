@@ -3,13 +3,13 @@ ghost use Rattle.std.specs.Prelude.{◌↔◌, IsTrue, ◌≡◌, ◌≤◌, ◌
 ghost use Rattle.pool_types.specs.declared.values.Place.{Place};
 ghost use Rattle.part_model.specs.Holding.{AreApart, AreWhole, IsWhole, CanMove, IsFirstRefused, after_parts};
 ghost use Rattle.part_model.specs.Apply.{Answers};
-ghost use Rattle.part_model.specs.Runs.{holder_at, IsSound};
+ghost use Rattle.part_model.specs.Stretches.{holder_at, IsSound};
 ghost use Rattle.part_model.specs.Totals.{bytes_held, totals_of};
 
-use crate::holders::{Holder, is_lawful};
+use crate::holders::{Holder, is_lawful_pair};
 use crate::moves::{Move, Part};
-use crate::runs::{Run, first_elsewhere, held_at, moved_all};
-use crate::totals::{Totals, are_countable, counted};
+use crate::stretches::{Stretch, after_parts, first_elsewhere, holder_at};
+use crate::totals::{Totals, are_countable, totals_of};
 use pool_types::Place;
 use std::alloc::Global;
 use std::marker::Model;
@@ -29,49 +29,49 @@ pub enum ApplyError {
     NoMemory,
 }
 
-/// Which holder has each byte of the pool's live regions. Contracts see it as a list of runs, and speak of it
+/// Which holder has each byte of the pool's live regions. Contracts see it as a list of stretches, and speak of it
 /// by `holder_at`, which gives None at a byte that is in no live region. This project's own.
 #[derive(Drop)]
 pub struct Partition {
-    runs: Vec<Run>,
+    stretches: Vec<Stretch>,
 }
 
 impl Model for Partition {
     ghost use Rattle.std.specs.Prelude.{List};
-    ghost use Rattle.part_model.specs.declared.runs.Run.{Run};
-    ghost use Rattle.part_model.specs.Runs.{AreRuns};
+    ghost use Rattle.part_model.specs.declared.stretches.Stretch.{Stretch};
+    ghost use Rattle.part_model.specs.Stretches.{AreStretches};
 
-    ghost Value = { List Run };
+    ghost Value = { List Stretch };
 
-    ghost view = { λ p. p.runs.items };
+    ghost view = { λ p. p.stretches.items };
 
-    ghost invariant = { λ p. AreRuns p.runs.items };
+    ghost invariant = { λ p. AreStretches p.stretches.items };
 }
 
 /// The first byte that keeps a part from being moved.
-fn refused_at(runs: &[Run], seat: u8, part: &Part) -> Option<Place>
-    requires sound { All IsSound runs.now }
+fn first_refused(stretches: &[Stretch], seat: u8, part: &Part) -> Option<Place>
+    requires sound { All IsSound stretches.now }
     requires whole { IsWhole part.now.range }
-    ensures { MatchOption result (CanMove seat (holder_at runs.now) part.now)
-        (λ byte. IsFirstRefused seat (holder_at runs.now) part.now byte) }
+    ensures { MatchOption result (CanMove seat (holder_at stretches.now) part.now)
+        (λ byte. IsFirstRefused seat (holder_at stretches.now) part.now byte) }
 {
-    if !is_lawful(seat, part.from, part.to) {
+    if !is_lawful_pair(seat, part.from, part.to) {
         return Some(part.range.place);
     }
-    first_elsewhere(runs, &part.range, part.from)
+    first_elsewhere(stretches, &part.range, part.from)
 }
 
 /// Whether all parts can be moved.
-fn judged(runs: &[Run], seat: u8, parts: &[Part]) -> Result<(), ApplyError>
-    requires sound { All IsSound runs.now }
+fn judge(stretches: &[Stretch], seat: u8, parts: &[Part]) -> Result<(), ApplyError>
+    requires sound { All IsSound stretches.now }
     requires whole { AreWhole parts.now }
-    ensures { Answers seat parts.now (holder_at runs.now) result }
+    ensures { Answers seat parts.now (holder_at stretches.now) result }
 {
     for part in parts {
-        if let Some(byte) = refused_at(runs, seat, part) {
+        if let Some(byte) = first_refused(stretches, seat, part) {
             return Err(ApplyError::Unlawful {
                 byte,
-                held: held_at(runs, &byte),
+                held: holder_at(stretches, &byte),
                 wanted: part.from,
             });
         }
@@ -85,12 +85,12 @@ impl Partition {
         ensures { (byte : Place) → holder_at result byte ≡ None }
     {
         Partition {
-            runs: Vec::new(alloc),
+            stretches: Vec::new(alloc),
         }
     }
 
-    /// Moves the parts of a move, all of them or none; nothing is changed on an error. It judges by runs of one holder and
-    /// never byte by byte, so a part of 8 MiB costs no more than one of 8 bytes.
+    /// Moves the parts of a move, all of them or none; nothing is changed on an error. It judges by stretches of one
+    /// holder and never byte by byte, so a part of 8 MiB costs no more than one of 8 bytes.
     pub fn apply(&mut self, alloc: Global, m: &Move) -> Result<(), ApplyError>
         requires whole { AreWhole m.now.parts.items }
         requires apart { AreApart m.now.parts.items }
@@ -100,10 +100,10 @@ impl Partition {
         ensures unchanged { OnErr result (self.new ≡ self.old) }
     {
         let parts = m.parts.as_slice();
-        judged(self.runs.as_slice(), m.seat, parts)?;
-        match moved_all(alloc, self.runs.as_slice(), parts) {
+        judge(self.stretches.as_slice(), m.seat, parts)?;
+        match after_parts(alloc, self.stretches.as_slice(), parts) {
             Ok(next) => {
-                self.runs = next;
+                self.stretches = next;
                 Ok(())
             }
             Err(_) => Err(ApplyError::NoMemory),
@@ -114,7 +114,7 @@ impl Partition {
     pub fn can_count(&self) -> bool
         ensures { IsTrue result ↔ (bytes_held (holder_at self.now) ≤ 2 ^ 64 - 1) }
     {
-        are_countable(self.runs.as_slice())
+        are_countable(self.stretches.as_slice())
     }
 
     /// How many regions are live, how many bytes they have, and how many of these each kind of holder has. A region is
@@ -124,7 +124,7 @@ impl Partition {
         requires { bytes_held (holder_at self.now) ≤ 2 ^ 64 - 1 }
         ensures { result ≡ totals_of (holder_at self.now) }
     {
-        counted(self.runs.as_slice())
+        totals_of(self.stretches.as_slice())
     }
 }
 

@@ -1,11 +1,11 @@
 //! How many bytes each kind of holder has.
 ghost use Rattle.std.specs.Prelude.{◌↔◌, IsTrue, ◌≡◌, ◌≤◌, ◌-◌, ◌^◌};
-ghost use Rattle.part_model.specs.Runs.{holder_at, AreRuns, has_region_at, run_bytes};
+ghost use Rattle.part_model.specs.Stretches.{holder_at, AreStretches, has_region, stretch_bytes};
 ghost use Rattle.part_model.specs.Totals.{bytes_at, bytes_held, regions_held, totals_of};
 
-use crate::holders::Kind;
-use crate::moves::is_same_region;
-use crate::runs::Run;
+use crate::holders::HolderKind;
+use crate::moves::same_region;
+use crate::stretches::Stretch;
 use pool_types::Place;
 
 /// Counts of a partition: its live regions, their bytes, and how many of these each kind of holder has.
@@ -27,14 +27,14 @@ pub struct Totals {
     pub hand: u64,
 }
 
-/// Whether the bytes of all runs are few enough to be counted.
-pub(crate) fn are_countable(runs: &[Run]) -> bool
-    requires { AreRuns runs.now }
-    ensures { IsTrue result ↔ (bytes_held (holder_at runs.now) ≤ 2 ^ 64 - 1) }
+/// Whether the bytes of all stretches are few enough to be counted.
+pub(crate) fn are_countable(stretches: &[Stretch]) -> bool
+    requires { AreStretches stretches.now }
+    ensures { IsTrue result ↔ (bytes_held (holder_at stretches.now) ≤ 2 ^ 64 - 1) }
 {
     let mut bytes: u64 = 0;
-    for run in runs {
-        match bytes.checked_add(run.range.bytes) {
+    for stretch in stretches {
+        match bytes.checked_add(stretch.range.bytes) {
             Some(more) => bytes = more,
             None => return false,
         }
@@ -42,54 +42,54 @@ pub(crate) fn are_countable(runs: &[Run]) -> bool
     true
 }
 
-/// The bytes of all runs.
-fn all_bytes(runs: &[Run]) -> u64
-    requires runs { AreRuns runs.now }
-    requires fits { run_bytes runs.now ≤ 2 ^ 64 - 1 }
-    ensures { result ≡ bytes_held (holder_at runs.now) }
+/// The bytes of all stretches.
+fn bytes_held(stretches: &[Stretch]) -> u64
+    requires stretches { AreStretches stretches.now }
+    requires fits { stretch_bytes stretches.now ≤ 2 ^ 64 - 1 }
+    ensures { result ≡ bytes_held (holder_at stretches.now) }
 {
     let mut bytes = 0;
-    for run in runs {
-        bytes += run.range.bytes;
+    for stretch in stretches {
+        bytes += stretch.range.bytes;
     }
     bytes
 }
 
-/// The bytes of the runs at a kind of holder.
-fn bytes_of(runs: &[Run], kind: Kind) -> u64
-    requires runs { AreRuns runs.now }
-    requires fits { run_bytes runs.now ≤ 2 ^ 64 - 1 }
-    ensures { result ≡ bytes_at kind (holder_at runs.now) }
+/// The bytes of the stretches at a kind of holder.
+fn bytes_at(stretches: &[Stretch], kind: HolderKind) -> u64
+    requires stretches { AreStretches stretches.now }
+    requires fits { stretch_bytes stretches.now ≤ 2 ^ 64 - 1 }
+    ensures { result ≡ bytes_at kind (holder_at stretches.now) }
 {
     let mut bytes = 0;
-    for run in runs {
-        if run.holder.is(kind) {
-            bytes += run.range.bytes;
+    for stretch in stretches {
+        if stretch.holder.is(kind) {
+            bytes += stretch.range.bytes;
         }
     }
     bytes
 }
 
-/// Whether one of the runs is of the place's region.
-fn has_region(runs: &[Run], place: &Place) -> bool
-    ensures { result ≡ has_region_at runs.now place.now.pool place.now.region }
+/// Whether one of the stretches is of the place's region.
+fn has_region(stretches: &[Stretch], place: &Place) -> bool
+    ensures { result ≡ has_region stretches.now place.now.pool place.now.region }
 {
-    for run in runs {
-        if is_same_region(place, &run.range.place) {
+    for stretch in stretches {
+        if same_region(place, &stretch.range.place) {
             return true;
         }
     }
     false
 }
 
-/// The regions of the runs. Each is counted at its first run.
-fn region_count(runs: &[Run]) -> u64
-    requires { AreRuns runs.now }
-    ensures { result ≡ regions_held (holder_at runs.now) }
+/// The regions of the stretches. Each is counted at its first stretch.
+fn regions_held(stretches: &[Stretch]) -> u64
+    requires { AreStretches stretches.now }
+    ensures { result ≡ regions_held (holder_at stretches.now) }
 {
     let mut regions = 0;
-    for (index, run) in runs.iter().enumerate() {
-        if !has_region(&runs[..index], &run.range.place) {
+    for (index, stretch) in stretches.iter().enumerate() {
+        if !has_region(&stretches[..index], &stretch.range.place) {
             regions += 1;
         }
     }
@@ -97,25 +97,25 @@ fn region_count(runs: &[Run]) -> u64
 }
 
 /// The totals of a partition.
-pub(crate) fn counted(runs: &[Run]) -> Totals
-    requires runs { AreRuns runs.now }
-    requires fits { run_bytes runs.now ≤ 2 ^ 64 - 1 }
-    ensures { result ≡ totals_of (holder_at runs.now) }
+pub(crate) fn totals_of(stretches: &[Stretch]) -> Totals
+    requires stretches { AreStretches stretches.now }
+    requires fits { stretch_bytes stretches.now ≤ 2 ^ 64 - 1 }
+    ensures { result ≡ totals_of (holder_at stretches.now) }
 {
     Totals {
-        regions: region_count(runs),
-        bytes: all_bytes(runs),
-        waste: bytes_of(runs, Kind::Waste),
-        head: bytes_of(runs, Kind::Head),
-        rest: bytes_of(runs, Kind::Rest),
-        private: bytes_of(runs, Kind::Private),
-        public: bytes_of(runs, Kind::Public),
-        object: bytes_of(runs, Kind::Object),
-        large_head: bytes_of(runs, Kind::LargeHead),
-        slab_cache: bytes_of(runs, Kind::SlabCache),
-        cached: bytes_of(runs, Kind::Cached),
-        bin: bytes_of(runs, Kind::Bin),
-        queue: bytes_of(runs, Kind::Queue),
-        hand: bytes_of(runs, Kind::Hand),
+        regions: regions_held(stretches),
+        bytes: bytes_held(stretches),
+        waste: bytes_at(stretches, HolderKind::Waste),
+        head: bytes_at(stretches, HolderKind::Head),
+        rest: bytes_at(stretches, HolderKind::Rest),
+        private: bytes_at(stretches, HolderKind::Private),
+        public: bytes_at(stretches, HolderKind::Public),
+        object: bytes_at(stretches, HolderKind::Object),
+        large_head: bytes_at(stretches, HolderKind::LargeHead),
+        slab_cache: bytes_at(stretches, HolderKind::SlabCache),
+        cached: bytes_at(stretches, HolderKind::Cached),
+        bin: bytes_at(stretches, HolderKind::Bin),
+        queue: bytes_at(stretches, HolderKind::Queue),
+        hand: bytes_at(stretches, HolderKind::Hand),
     }
 }

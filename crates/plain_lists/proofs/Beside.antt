@@ -5,7 +5,7 @@ use Rattle.pool_types.specs.declared.values.Region.{Region}
 use Rattle.plain_lists.specs.Lists.{OwnSlab, Block, Lists, no_lists, first_region}
 use Rattle.plain_lists.specs.Good.{IsGoodSlab, IsGoodBlock, AreGood, slabs_on, stored_on, blocks_on, has_granule, IsHeld}
 use Rattle.plain_lists.proofs.Granules.{has_granule-once}
-use Rattle.plain_lists.proofs.Members.{Contains-none}
+use Rattle.list_laws.proofs.Members.{Contains-none}
 
 -- The lists are good, but that room for slabs at these indices is in hand: each granule of the region is in one room, one slab, one slab
 -- of the slab cache or one block. How many slabs the slab cache may have is left out: for a moment it has one too many.

@@ -5,8 +5,8 @@ use Rattle.std.proofs.lemmas.Bool.{le-leb}
 use Rattle.plain_lists.specs.Lists.{Block, Lists, first_region, whole_block, lies_on}
 use Rattle.plain_lists.specs.Backend.{rests, after_cut, after_put, slab_block}
 use Rattle.plain_lists.specs.Good.{IsGoodBlock, slabs_on, stored_on, blocks_on, has_granule}
-use Rattle.plain_lists.proofs.Members.{Contains-first, Contains-other, Contains-cons}
-use Rattle.plain_lists.proofs.Counting.{one_if, count-cons}
+use Rattle.list_laws.proofs.Members.{Contains-first, Contains-other, Contains-cons}
+use Rattle.list_laws.proofs.Counts.{one_if, count-cons}
 use Rattle.plain_lists.proofs.Granules.{lies_on-joined}
 use Rattle.plain_lists.proofs.Blocks.{AreBlocks, has, blocks_on-first, blocks_on-after_cut, after_cut_good}
 use Rattle.plain_lists.proofs.Joined.{blocks_on-after_put, after_put_good}

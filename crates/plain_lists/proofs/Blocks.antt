@@ -7,8 +7,10 @@ use Rattle.std.proofs.lemmas.List.{append-nil}
 use Rattle.plain_lists.specs.Lists.{Block, lies_on}
 use Rattle.plain_lists.specs.Backend.{even_from, is_same, some_block, rests, after_cut}
 use Rattle.plain_lists.specs.Good.{IsGoodBlock, blocks_on}
-use Rattle.plain_lists.proofs.Members.{Contains-none, Contains-single, Contains-append, Contains-filter, find-Some, find-None}
-use Rattle.plain_lists.proofs.Counting.{one_if, count_in, count-cons, count-append, count-split, count-found, count-more, count-some, count-only}
+use Rattle.list_laws.proofs.Members.{Contains-none, Contains-single, Contains-filter}
+use Rattle.std.proofs.lemmas.List.Elements.{Contains-append_cases}
+use Rattle.list_laws.proofs.Finds.{find-Some, find-None}
+use Rattle.list_laws.proofs.Counts.{one_if, count_in, count-cons, count-append, count-split, count-found, count-more, count-some, count-only}
 use Rattle.plain_lists.proofs.Granules.{lies_on-true, lies_on-joined, lies_on-none}
 
 -- A list of blocks that are good, of which no granule is in two, and none ends where another begins.
@@ -99,7 +101,7 @@ Contains-some_block first granules block inside = go (granules == 0) refl inside
 pub Contains-after_cut : (block : Block) (blocks : List Block) (one : Block) → block.first % 2 ≡ 0 → Contains (after_cut block blocks) one →
     ((one.first ≡ block.first + 2) × (one.granules ≡ block.granules - 2) × (0 < block.granules - 2)) ⊎ (Contains blocks one × (one.first ≢ block.first))
 Contains-after_cut block blocks one even inside =
-    elim (Contains-append (rests block) (filter (λ other. not (is_same block other)) blocks) one inside) [
+    elim (Contains-append_cases (rests block) (filter (λ other. not (is_same block other)) blocks) one inside) [
       | inl left ↦ inl (Contains-some_block (block.first + 2) (block.granules - 2) one (subst (λ bs. Contains bs one) (rests-even block even) left))
       | inr among ↦
           let (was, other) = Contains-filter (λ other. not (is_same block other)) blocks one among in

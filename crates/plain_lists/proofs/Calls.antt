@@ -6,11 +6,12 @@ use Rattle.std.proofs.lemmas.Bool.{and_parts, or_cases, eqb-true, ltb-true}
 use Rattle.pool_types.specs.declared.values.Request.{Request}
 use Rattle.pool_types.specs.declared.values.Request.TheVariants.{Malloc, Free, Msize, Identify}
 use Rattle.size_classes.specs.Classes.{class_objects}
-use Rattle.size_classes.proofs.Positions.{first_class-some}
+use Rattle.size_classes.proofs.CallerLemmas.{class_of-some}
 use Rattle.plain_lists.specs.Lists.{OwnSlab, Lists, begun, has_free, next_object, given, taken_back, is_unused, changed, without}
 use Rattle.plain_lists.specs.Whole.{Room, Spot, gives, begins, begins_in, malloc_from, malloc_of, class_at, room_in, frees, free_of, shelved, spot_at, whole, IsServed}
 use Rattle.plain_lists.specs.Good.{AreGood, IsHeld}
-use Rattle.plain_lists.proofs.Members.{Contains-first, find-Some}
+use Rattle.list_laws.proofs.Members.{Contains-first}
+use Rattle.list_laws.proofs.Finds.{find-Some}
 use Rattle.plain_lists.proofs.Slabs.{CanGive, given-private, given-next, given_good, given_held, begun_good, begun_held, taken_back_good, taken_back_held}
 use Rattle.plain_lists.proofs.SlabLists.{changed-first}
 use Rattle.plain_lists.proofs.SlabChanges.{slab_changed, slab_begun, no_slab_in_room, slab_left}
@@ -71,7 +72,7 @@ begins_good index rooms lists class good exists even =
 -- the class of a size that has one
 pub class_at-exists : (size : ℕ) → size ≤ 8128 → class_at size < 26
 class_at-exists size small =
-    let (class, found, is) = first_class-some size small in
+    let (class, found, is) = class_of-some size small in
     subst (λ c. c < 26) (sym (ap (λ (c : Option ℕ). unwrap_or c 0) found)) is.exists
 
 -- a malloc

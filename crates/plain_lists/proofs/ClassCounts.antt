@@ -5,10 +5,11 @@ use Rattle.std.proofs.lemmas.Bool.{eq-eqb, ne_eqb, cases_eq, cases_lt, true≢fa
 use Rattle.std.proofs.lemmas.Bool.Decides.{nat_tests}
 use Rattle.std.proofs.lemmas.Nat.{mod-mul-add}
 use Rattle.size_classes.specs.Classes.{class_objects}
-use Rattle.size_classes.proofs.Sizes.{class_objects-least}
+use Rattle.size_classes.proofs.CallerLemmas.{class_objects-least}
 use Rattle.plain_lists.specs.Lists.{OwnSlab, has_free, changed}
 use Rattle.plain_lists.specs.Counts.{count_of, is_first, slabs_in, slab_in}
-use Rattle.plain_lists.proofs.Members.{Contains-first, Contains-other, Contains-cons, Contains-none, find-None}
+use Rattle.list_laws.proofs.Members.{Contains-first, Contains-other, Contains-cons, Contains-none}
+use Rattle.list_laws.proofs.Finds.{find-None}
 use Rattle.plain_lists.proofs.SlabLists.{Contains-changed, changed-other, changed-itself}
 
 -- the test whether a slab has an object to give, where none is private

@@ -7,7 +7,8 @@ use Rattle.std.proofs.lemmas.Bool.{and_parts, and_cases, eqb-true, eq-eqb, le-le
 use Rattle.plain_lists.specs.Lists.{Block}
 use Rattle.plain_lists.specs.Backend.{bin_of, even_from, fits, fit_from, first_fit}
 use Rattle.plain_lists.specs.Good.{IsGoodBlock}
-use Rattle.plain_lists.proofs.Members.{Contains-first, find-Some, find-None}
+use Rattle.list_laws.proofs.Members.{Contains-first}
+use Rattle.list_laws.proofs.Finds.{find-Some, find-None}
 use Rattle.plain_lists.proofs.Blocks.{two_at_least}
 
 -- the block is in the bin, and a slab fits

@@ -6,7 +6,7 @@ use Rattle.std.proofs.lemmas.Bool.{and_parts, and_from, and_left, and_right, le-
 use Rattle.pool_types.specs.declared.values.Region.{Region}
 use Rattle.plain_lists.specs.Lists.{lies_on}
 use Rattle.plain_lists.specs.Good.{has_granule}
-use Rattle.plain_lists.proofs.Counting.{one_if}
+use Rattle.list_laws.proofs.Counts.{one_if}
 
 -- a granule of them, one before them and one behind them
 pub lies_on-true : (first granules granule : ℕ) → first ≤ granule → granule < first + granules → lies_on first granules granule ≡ true

@@ -6,8 +6,9 @@ use Rattle.std.proofs.lemmas.Bool.{eq-eqb, eqb-true, not-true, or_parts, true≢
 use Rattle.plain_lists.specs.Lists.{Block, lies_on}
 use Rattle.plain_lists.specs.Backend.{meets, touches, granules_in, joined_first, block_before, block_behind, joined, after_put}
 use Rattle.plain_lists.specs.Good.{IsGoodBlock, blocks_on}
-use Rattle.plain_lists.proofs.Members.{Contains-cons, Contains-filter, find-Some}
-use Rattle.plain_lists.proofs.Counting.{one_if, count_in, count-cons, count-split, count-either, count-found}
+use Rattle.list_laws.proofs.Members.{Contains-cons, Contains-filter}
+use Rattle.list_laws.proofs.Finds.{find-Some}
+use Rattle.list_laws.proofs.Counts.{one_if, count_in, count-cons, count-split, count-either, count-found}
 use Rattle.plain_lists.proofs.Granules.{lies_on-true, lies_on-joined, lies_on-none}
 use Rattle.plain_lists.proofs.Blocks.{AreBlocks, has, alone_at}
 

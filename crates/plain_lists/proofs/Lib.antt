@@ -1,5 +1,3 @@
-pub mod Members
-pub mod Counting
 pub mod Granules
 pub mod Beside
 pub mod Gets

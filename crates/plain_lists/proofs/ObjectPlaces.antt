@@ -6,14 +6,13 @@ use Rattle.std.proofs.lemmas.Bool.{and_parts, and_from, eq-eqb, eqb-true, lt-ltb
 use Rattle.std.proofs.Math.Nat.{div-add-mod, mul-mod_left, mul_comm, mul-div_cancel}
 use Rattle.pool_types.specs.declared.values.Place.{Place}
 use Rattle.size_classes.specs.Classes.{class_size, class_objects}
-use Rattle.size_classes.proofs.Sizes.{class_size-least}
-use Rattle.slab_core.specs.Layout.{object_offset}
-use Rattle.slab_core.proofs.Places.{objects-room, bytes-next}
+use Rattle.size_classes.proofs.CallerLemmas.{class_size-least, objects-room, bytes-next}
+use Rattle.size_classes.specs.Layout.{object_offset}
 use Rattle.plain_lists.specs.Lists.{OwnSlab, Lists, lies_on}
 use Rattle.plain_lists.specs.Whole.{Spot, object_of, place_at, spot_held, spot_of, spot_in, spot_at}
 use Rattle.plain_lists.specs.Good.{IsGoodSlab, IsHeld, slabs_on}
-use Rattle.plain_lists.proofs.Counting.{find-only}
-use Rattle.plain_lists.proofs.Gets.{slice_get-inside}
+use Rattle.list_laws.proofs.Finds.{find-only}
+use Rattle.std.proofs.lemmas.Option.{slice_get_within}
 use Rattle.plain_lists.proofs.Granules.{lies_on-true, lies_on-parts}
 use Rattle.plain_lists.proofs.Rooms.{Some-same}
 use Rattle.plain_lists.proofs.Beside.{AreGoodBeside, at_most_once}
@@ -25,7 +24,7 @@ divides-times n size none = let parts = div-add-mod n size in let turned = mul_c
 
 -- the object of a class that starts so many bytes into its slab starts there
 pub object_of-Some : (class within object : ℕ) → object_of class within ≡ Some object → (within ≡ object_offset class object) × (within < 16384)
-unfolding object_of object_offset
+unfolding object_of
 object_of-Some class within object found = go (((16384 - within) % class_size class == 0) && nat_lt within 16384) refl found
   where
     go : (b : Bool) → (((16384 - within) % class_size class == 0) && nat_lt within 16384) ≡ b →
@@ -46,7 +45,7 @@ object_of-Some class within object found = go (((16384 - within) % class_size cl
 
 -- and the other way round
 pub object_of-at : (class object : ℕ) → class < 26 → object < class_objects class → object_of class (object_offset class object) ≡ Some object
-unfolding object_of object_offset
+unfolding object_of
 object_of-at class object exists below =
     ap (λ (b : Bool). if b then Some ((16384 - (16384 - bytes)) / size - 1) else None) (and_from ((16384 - (16384 - bytes)) % size == 0) (nat_lt (16384 - bytes) 16384) whole inside)
     ∙ ap Some (ap (λ n. n / size - 1) left ∙ ap (λ n. n - 1) (mul-div_cancel (object + 1) {n = size} some) ∙ omega arith)
@@ -71,7 +70,6 @@ object_of-at class object exists below =
 
 -- an object starts within its slab
 pub object_offset-within : (class object : ℕ) → class < 26 → object_offset class object < 16384
-unfolding object_offset
 object_offset-within class object exists = let next = bytes-next object (class_size class) in let least = class_size-least class exists in omega (arith, next, least)
 
 -- the place of a spot is where its object starts
@@ -104,7 +102,7 @@ held_found rooms lists good slab object number inside held =
     offset = 8192 * slab.index + object_offset slab.class object
 
     below : object < class_objects slab.class
-    below = let handed = slice_get-inside slab.objects object (Some number) held in let most = slab_good.few in omega (arith, handed, most)
+    below = let handed = slice_get_within slab.objects object (Some number) held in let most = slab_good.few in omega (arith, handed, most)
 
     within : offset - 8192 * slab.index ≡ object_offset slab.class object
     within = omega arith

@@ -9,7 +9,8 @@ use Rattle.size_classes.specs.Classes.{class_objects}
 use Rattle.plain_lists.specs.Lists.{OwnSlab, Lists, no_lists, begun, has_free, next_object, given, changed}
 use Rattle.plain_lists.specs.Whole.{Room, place_at, gives, begins, begins_in, malloc_from, class_at, room_in, answers_to}
 use Rattle.plain_lists.specs.Counts.{count_of, is_first, slabs_in, slab_in, ArePlaced, MallocsArePlaced}
-use Rattle.plain_lists.proofs.Members.{Contains-cons, Contains-none, find-Some}
+use Rattle.list_laws.proofs.Members.{Contains-cons, Contains-none}
+use Rattle.list_laws.proofs.Finds.{find-Some}
 use Rattle.plain_lists.proofs.Slabs.{given-next, next_object-next}
 use Rattle.plain_lists.proofs.SlabLists.{Contains-changed, changed-first}
 use Rattle.plain_lists.proofs.Calls.{given-index, given-class, class_at-exists}

@@ -9,7 +9,7 @@ use Rattle.plain_lists.specs.Lists.{Block, Lists, whole_block}
 use Rattle.plain_lists.specs.Backend.{is_same, first_fit, some_block, rests, after_cut}
 use Rattle.plain_lists.specs.Whole.{Room, newest, region_room, block_room, stored_room, room_in}
 use Rattle.plain_lists.specs.Good.{IsGoodBlock}
-use Rattle.plain_lists.proofs.Members.{Contains-none}
+use Rattle.list_laws.proofs.Members.{Contains-none}
 use Rattle.plain_lists.proofs.Blocks.{rests-even, Contains-some_block}
 use Rattle.plain_lists.proofs.Fits.{first_fit-Some, first_fit-None, even_from-good}
 

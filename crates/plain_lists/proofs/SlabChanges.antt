@@ -3,8 +3,8 @@ use Rattle.std.proofs.Common.{◌≡◌, ◌≢◌, ℕ, ◌%◌, ◌<◌, ◌�
 use Rattle.std.specs.Prelude.{Contains}
 use Rattle.plain_lists.specs.Lists.{OwnSlab, Lists, lies_on, changed, without}
 use Rattle.plain_lists.specs.Good.{IsGoodSlab, slabs_on, IsHeld}
-use Rattle.plain_lists.proofs.Members.{Contains-other, Contains-cons}
-use Rattle.plain_lists.proofs.Counting.{one_if, count-cons}
+use Rattle.list_laws.proofs.Members.{Contains-other, Contains-cons}
+use Rattle.list_laws.proofs.Counts.{one_if, count-cons}
 use Rattle.plain_lists.proofs.Granules.{lies_on-true}
 use Rattle.plain_lists.proofs.SlabLists.{Contains-changed, slabs_on-changed, Contains-without, slabs_on-without, slabs_on-first}
 use Rattle.plain_lists.proofs.Beside.{AreGoodBeside, at_most_once}

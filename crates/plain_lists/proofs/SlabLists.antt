@@ -5,8 +5,9 @@ use Rattle.std.specs.declared.option.Option.{Option}
 use Rattle.std.proofs.lemmas.Bool.{eq-eqb, ne_eqb, eqb-true, eqb-false, not-true, true≢false}
 use Rattle.plain_lists.specs.Lists.{OwnSlab, lies_on, changed, without}
 use Rattle.plain_lists.specs.Good.{slabs_on}
-use Rattle.plain_lists.proofs.Members.{Contains-first, Contains-other, Contains-map, Contains-map_from, Contains-filter, Contains-filter_from, find-Some, find-None}
-use Rattle.plain_lists.proofs.Counting.{one_if, count_in, count-same, count-map, count-split, count-found, count-more, count-some}
+use Rattle.list_laws.proofs.Members.{Contains-first, Contains-other, Contains-map, Contains-map_from, Contains-filter, Contains-filter_from}
+use Rattle.list_laws.proofs.Finds.{find-Some, find-None}
+use Rattle.list_laws.proofs.Counts.{one_if, count_in, count-same, count-map, count-split, count-found, count-more, count-some}
 use Rattle.plain_lists.proofs.Granules.{lies_on-true}
 
 -- a slab of a list in which one was changed is that one, or another one

@@ -6,10 +6,12 @@ use Rattle.std.specs.declared.option.Option.{Option}
 use Rattle.std.proofs.lemmas.Bool.{cases_eq, cases_order, leb-false}
 use Rattle.std.proofs.lemmas.List.{length-set, length-append}
 use Rattle.size_classes.specs.Classes.{class_objects}
-use Rattle.size_classes.proofs.Sizes.{class_objects-least}
+use Rattle.size_classes.proofs.CallerLemmas.{class_objects-least}
 use Rattle.plain_lists.specs.Lists.{OwnSlab, begun, next_object, given, taken_back, is_unused}
 use Rattle.plain_lists.specs.Good.{IsGoodSlab, IsHeld, times}
-use Rattle.plain_lists.proofs.Gets.{slice_get-set_same, slice_get-set_other, slice_get-within, slice_get-end, slice_get-past, slice_get-inside, times-same, times-other, nones-append, nones-set_some, nones-set_none}
+use Rattle.plain_lists.proofs.Gets.{times-same, times-other, nones-append, nones-set_some, nones-set_none}
+use Rattle.list_laws.proofs.Gets.{slice_get-set_same, slice_get-set_other, slice_get-within, slice_get-end}
+use Rattle.std.proofs.lemmas.Option.{slice_get_past, slice_get_within}
 
 -- the slab has an object to give: a private one, or one that was not handed out
 abbrev pub CanGive : OwnSlab → Type 0
@@ -57,7 +59,7 @@ given_next slab number good = go slab.private refl
     go (object ∷ private) is =
         ap (λ (s : OwnSlab). slice_get s.objects (next_object slab)) (given-private slab number object private is)
         ∙ ap (λ o. slice_get (slice_set slab.objects object (Some number)) o) (next_object-private slab object private is)
-        ∙ slice_get-set_same slab.objects object (Some number) (slice_get-inside slab.objects object None (private_listed slab object private good is).0)
+        ∙ slice_get-set_same slab.objects object (Some number) (slice_get_within slab.objects object None (private_listed slab object private good is).0)
 
 pub given_other : (slab : OwnSlab) (number object : ℕ) → object ≢ next_object slab → slice_get (given slab number).objects object ≡ slice_get slab.objects object
 given_other slab number object other = go slab.private refl
@@ -65,7 +67,7 @@ given_other slab number object other = go slab.private refl
     past : (length slab.objects < object) → slice_get (slab.objects ++ Some number ∷ []) object ≡ slice_get slab.objects object
     past above =
         let long = length-append slab.objects (Some number ∷ []) in
-        slice_get-past (slab.objects ++ Some number ∷ []) object (omega (arith, long, above)) ∙ sym (slice_get-past slab.objects object (omega (arith, above)))
+        slice_get_past (slab.objects ++ Some number ∷ []) object (omega (arith, long, above)) ∙ sym (slice_get_past slab.objects object (omega (arith, above)))
 
     go : (private : List ℕ) → slab.private ≡ private → slice_get (given slab number).objects object ≡ slice_get slab.objects object
     go [] is =
@@ -102,7 +104,7 @@ given_good slab number good can = go slab.private refl
       even = good.even;
       few = let long = length-append slab.objects (Some number ∷ []) in let less = room is in omega (arith, long, less);
       listed = λ object listed. listed_before object listed;
-      unlisted = λ object unlisted. good.unlisted object (λ e. unlisted (slice_get-within slab.objects (Some number ∷ []) object (slice_get-inside slab.objects object None e) ∙ e));
+      unlisted = λ object unlisted. good.unlisted object (λ e. unlisted (slice_get-within slab.objects (Some number ∷ []) object (slice_get_within slab.objects object None e) ∙ e));
       counted = let more = nones-append slab.objects (Some number ∷ []) in let old = good.counted in omega (arith, more, old);
       held = let long = length-append slab.objects (Some number ∷ []) in let old = good.held in omega (arith, long, old);
     }
@@ -114,7 +116,7 @@ given_good slab number good can = go slab.private refl
               | inr (inl below) ↦ good.listed object (sym (slice_get-within slab.objects (Some number ∷ []) object below) ∙ listed)
               | inr (inr above) ↦
                   let long = length-append slab.objects (Some number ∷ []) in
-                  absurd (let both : None ≡ Some None = sym (slice_get-past (slab.objects ++ Some number ∷ []) object (omega (arith, long, above))) ∙ listed in cc)
+                  absurd (let both : None ≡ Some None = sym (slice_get_past (slab.objects ++ Some number ∷ []) object (omega (arith, long, above))) ∙ listed in cc)
             ]
 
     back : (object : ℕ) (private : List ℕ) → slab.private ≡ object ∷ private → IsGoodSlab (record slab { objects = slice_set slab.objects object (Some number); private = private })
@@ -138,7 +140,7 @@ given_good slab number good can = go slab.private refl
         was = private_listed slab object private good is
 
         here : slice_get (slice_set slab.objects object (Some number)) object ≡ Some (Some number)
-        here = slice_get-set_same slab.objects object (Some number) (slice_get-inside slab.objects object None was.0)
+        here = slice_get-set_same slab.objects object (Some number) (slice_get_within slab.objects object None was.0)
 
         rest : (other : ℕ) → other ≢ object → times other slab.private ≡ times other private
         rest other apart = ap (λ xs. times other xs) is ∙ times-other other object private (λ e. apart (sym e))
@@ -173,7 +175,7 @@ pub taken_back_held : (slab : OwnSlab) (object number : ℕ) → IsHeld slab obj
 taken_back_held slab object number was other held_as held =
     elim (cases_eq other object) [
       | inl same ↦
-          absurd (let both : Some None ≡ Some (Some held_as) = sym (slice_get-set_same slab.objects object None (slice_get-inside slab.objects object (Some number) was)) ∙ ap (λ o. slice_get (slice_set slab.objects object None) o) (sym same) ∙ held in cc)
+          absurd (let both : Some None ≡ Some (Some held_as) = sym (slice_get-set_same slab.objects object None (slice_get_within slab.objects object (Some number) was)) ∙ ap (λ o. slice_get (slice_set slab.objects object None) o) (sym same) ∙ held in cc)
       | inr apart ↦ (sym (slice_get-set_other slab.objects object other None apart) ∙ held, apart)
     ]
 
@@ -189,7 +191,7 @@ taken_back_good slab object number good was used = record {
     | inr apart ↦ times-other other object slab.private (λ e. apart (sym e)) ∙ good.listed other (sym (slice_get-set_other slab.objects object other None apart) ∙ listed)
   ];
   unlisted = λ other unlisted. elim (cases_eq other object) [
-    | inl same ↦ absurd (unlisted (ap (λ o. slice_get (slice_set slab.objects object None) o) same ∙ slice_get-set_same slab.objects object None (slice_get-inside slab.objects object (Some number) was)))
+    | inl same ↦ absurd (unlisted (ap (λ o. slice_get (slice_set slab.objects object None) o) same ∙ slice_get-set_same slab.objects object None (slice_get_within slab.objects object (Some number) was)))
     | inr apart ↦ times-other other object slab.private (λ e. apart (sym e)) ∙ good.unlisted other (λ e. unlisted (slice_get-set_other slab.objects object other None apart ∙ e))
   ];
   counted = let more = nones-set_none slab.objects object number was in let old = good.counted in omega (arith, more, old);

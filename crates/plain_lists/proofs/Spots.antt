@@ -7,7 +7,7 @@ use Rattle.pool_types.specs.declared.values.Place.{Place}
 use Rattle.plain_lists.specs.Lists.{OwnSlab, Lists, lies_on}
 use Rattle.plain_lists.specs.Whole.{Spot, object_of, spot_held, spot_of, spot_in, spot_at}
 use Rattle.plain_lists.specs.Good.{IsHeld}
-use Rattle.plain_lists.proofs.Members.{find-Some}
+use Rattle.list_laws.proofs.Finds.{find-Some}
 use Rattle.plain_lists.proofs.Rooms.{Some-same}
 
 -- The spot's slab is one of the lists, and holds the spot's object under the spot's number. The place is of the one region, in the slab,

@@ -4,14 +4,14 @@ use Rattle.std.proofs.Common.{◌≡◌, ℕ, ◌-◌, ◌%◌, ◌≤◌, Bool,
 use Rattle.std.specs.Prelude.{Contains, slice_get, if◌then◌else◌}
 use Rattle.std.proofs.lemmas.Bool.{leb-false}
 use Rattle.std.proofs.lemmas.List.{length-append}
-use Rattle.std.proofs.lemmas.Option.{get_or_from_slice_get}
+use Rattle.std.proofs.lemmas.Option.{get_or_from_slice_get, slice_get_within}
 use Rattle.plain_lists.specs.Lists.{Block, Lists, lies_on}
 use Rattle.plain_lists.specs.Backend.{after_put, after_puts, slab_block}
 use Rattle.plain_lists.specs.Whole.{trimmed}
 use Rattle.plain_lists.specs.Good.{AreGood, stored_on}
-use Rattle.plain_lists.proofs.Gets.{slice_get-inside}
-use Rattle.plain_lists.proofs.Members.{Contains-first, Contains-other, Contains-cons, Contains-append, Contains-single, Contains-take, Contains-drop}
-use Rattle.plain_lists.proofs.Counting.{count-cons, count-append, count-cut}
+use Rattle.list_laws.proofs.Members.{Contains-first, Contains-other, Contains-cons, Contains-single, Contains-take, Contains-drop}
+use Rattle.std.proofs.lemmas.List.Elements.{Contains-append_cases}
+use Rattle.list_laws.proofs.Counts.{count-cons, count-append, count-cut}
 use Rattle.plain_lists.proofs.Beside.{AreGoodBeside, good_from}
 use Rattle.plain_lists.proofs.BlockChanges.{block_put}
 
@@ -20,7 +20,7 @@ pub stored_put : (index : ℕ) (rooms : List ℕ) (lists : Lists) → AreGoodBes
 stored_put index rooms lists good = record {
   region_is = good.region_is;
   slabs_are = good.slabs_are;
-  stored_are = λ other inside. elim (Contains-append lists.stored (index ∷ []) other inside) [
+  stored_are = λ other inside. elim (Contains-append_cases lists.stored (index ∷ []) other inside) [
     | inl was ↦ good.stored_are other was
     | inr last ↦ subst (λ at_index. at_index % 2 ≡ 0) (Contains-single index other last) (good.rooms_are index (Contains-first index rooms))
   ];
@@ -40,7 +40,7 @@ stored_put index rooms lists good = record {
 -- the list without its newest member
 pub newest_last : (stored : List ℕ) (index : ℕ) → slice_get stored (length stored - 1) ≡ Some index → drop (length stored - 1) stored ≡ index ∷ []
 newest_last stored index is =
-    drop-cons stored (length stored - 1) index (slice_get-inside stored (length stored - 1) index is)
+    drop-cons stored (length stored - 1) index (slice_get_within stored (length stored - 1) index is)
     ∙ ap (λ last. last ∷ drop (suc (length stored - 1)) stored) (get_or_from_slice_get stored (length stored - 1) index index is)
     ∙ ap (λ rest. index ∷ rest) (none (drop (suc (length stored - 1)) stored) (let long = length-drop (suc (length stored - 1)) stored in omega (arith, long)))
   where

@@ -6,7 +6,7 @@ use Rattle.std.proofs.lemmas.Bool.{ltb-true, lt-ltb, eqb-true, cases_lt}
 use Rattle.pool_types.specs.declared.values.Region.{Region}
 use Rattle.plain_lists.specs.Lists.{OwnSlab, Block, Lists, first_region, lies_on}
 use Rattle.plain_lists.specs.Good.{slabs_on, stored_on, blocks_on, has_granule, times}
-use Rattle.plain_lists.proofs.Counting.{count-some, count-more, count-only, count-exists}
+use Rattle.list_laws.proofs.Counts.{count-some, count-more, count-only, count-exists}
 use Rattle.plain_lists.proofs.Granules.{lies_on-true}
 use Rattle.plain_lists.proofs.Blocks.{has}
 use Rattle.plain_lists.proofs.Beside.{AreGoodBeside, at_most_once}

@@ -6,7 +6,7 @@ use Rattle.pool_types.specs.declared.values.Leak.{Leak}
 use Rattle.pool_types.specs.declared.values.Region.{Region}
 use Rattle.part_model.specs.declared.totals.Totals.{Totals}
 use Rattle.size_classes.specs.Classes.{class_size, class_objects}
-use Rattle.slab_core.specs.Layout.{head_bytes}
+use Rattle.size_classes.specs.Layout.{head_bytes}
 use Rattle.plain_lists.specs.Lists.{OwnSlab, Block, Lists}
 use Rattle.plain_lists.specs.Whole.{place_at, grant_of}
 

@@ -11,8 +11,8 @@ use Rattle.pool_types.specs.declared.values.Answer.TheVariants.{Got, Null, Freed
 use Rattle.pool_types.specs.declared.values.NullCause.TheVariants.{NoFit}
 use Rattle.pool_types.specs.declared.values.Found.{Found}
 use Rattle.pool_types.specs.declared.values.Found.TheVariants.{NoPlace, NoGrant}
-use Rattle.size_classes.specs.Classes.{class_size, first_class}
-use Rattle.slab_core.specs.Layout.{object_offset}
+use Rattle.size_classes.specs.Classes.{class_size, class_of}
+use Rattle.size_classes.specs.Layout.{object_offset}
 use Rattle.plain_lists.specs.Lists.{OwnSlab, Block, Lists, first_region, whole_block, lies_on, begun, has_free, next_object, given, taken_back, is_unused, changed, without}
 use Rattle.plain_lists.specs.Backend.{first_fit, even_from, rests, after_cut, after_puts}
 
@@ -40,7 +40,7 @@ no_fit = Null (NoFit (record { first = 1; last = 511; seen = 0 }))
 
 -- the class of a size that has one
 abbrev pub class_at : ℕ → ℕ
-class_at size = unwrap_or (first_class size) 0
+class_at size = unwrap_or (class_of size) 0
 
 -- a slab of the lists gives its next object
 abbrev pub gives : Lists → OwnSlab → Outcome

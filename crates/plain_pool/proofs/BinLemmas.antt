@@ -6,27 +6,16 @@ use Rattle.std.specs.declared.option.Option.{Option}
 use Rattle.std.proofs.lemmas.Bool.Decides.{nat_tests}
 use Rattle.std.proofs.lemmas.Bool.{cases_eq, cases_lt, true≢false}
 use Rattle.std.proofs.lemmas.List.{get_or-set_same, get_or-set_other, get_or-replicate, get_or_past, length-replicate}
-use Rattle.index_lists.specs.Lists.{Lists, members, with_first, without, dropped, empty_lists, times, times_listed, first_of}
+use Rattle.index_lists.specs.Lists.{Lists, members, with_first, without, list_without, empty_lists, times, times_listed, first_of}
 use Rattle.plain_lists.specs.Lists.{Block}
 use Rattle.plain_lists.specs.Backend.{first_fit, fits, even_from, fit_from, some_block, after_cut, bin_of, granules_in, joined, after_put, slab_block, touches, joined_first}
-use Rattle.plain_lists.proofs.Members.{Contains-first, Contains-none, Contains-other, Contains-cons, Contains-filter, Contains-filter_from, find-Some, find-None}
+use Rattle.list_laws.proofs.Members.{Contains-first, Contains-none, Contains-other, Contains-cons, Contains-filter, Contains-filter_from}
+use Rattle.list_laws.proofs.Finds.{find-Some, find-None, filter-same, filter-each, find-left, find-gone, filter-twice, filter-map}
+use Rattle.plain_pool.proofs.Times.{times_map, times_made}
+use Rattle.std.proofs.lemmas.Bool.{eq-eqb, ne_eqb, eqb-true}
 use Rattle.plain_pool.specs.declared.bins.Bins.{Bins}
 use Rattle.plain_pool.specs.Bins.{AreBins, IsCut, first_granule, block_at, firsts_in, begins_at, ends_at, granules_from, granules_to, without_from, without_to, IsBlock, IsApart, AreBlocks, BinsFit, IsNew, IsClear}
-use Rattle.plain_pool.proofs.Finds.{filter-same, filter-each, find-left, find-gone, filter-twice, filter-map, times_map, times_made}
-use Rattle.index_lists.proofs.Listed.{in_one, list_of}
-
--- tests of numbers
-pub eq_true : (a b : ℕ) → a ≡ b → (a == b) ≡ true
-eq_true a b same = grind (arith, nat_tests)
-
-pub eq_false : (a b : ℕ) → (a ≡ b → ⊥) → (a == b) ≡ false
-eq_false a b differ = grind (arith, nat_tests)
-
-pub true_eq : (a b : ℕ) → (a == b) ≡ true → a ≡ b
-true_eq a b is = grind (arith, nat_tests)
-
-pub false_eq : (a b : ℕ) → (a == b) ≡ false → a ≡ b → ⊥
-false_eq a b is same = true≢false (sym (eq_true a b same) ∙ is)
+use Rattle.index_lists.proofs.CallerLemmas.{in_one, list_of}
 
 -- blocks that begin or end at one place are one
 pub one_first : (blocks : List Block) → AreBlocks blocks → (one other : Block) → Contains blocks one → Contains blocks other → one.first ≡ other.first → one ≡ other
@@ -52,10 +41,10 @@ member_there all list other xs differ = get_or-set_other all.lists list other xs
 
 -- the first granules in a bin with one block more
 pub firsts-here : (bin : ℕ) (block : Block) (blocks : List Block) → bin_of block ≡ bin → firsts_in bin (block ∷ blocks) ≡ block.first ∷ firsts_in bin blocks
-firsts-here bin block blocks is = ap (λ b. map (λ other. other.first) (cond b (block ∷ filter (λ other. bin_of other == bin) blocks) (filter (λ other. bin_of other == bin) blocks))) (eq_true (bin_of block) bin is)
+firsts-here bin block blocks is = ap (λ b. map (λ other. other.first) (cond b (block ∷ filter (λ other. bin_of other == bin) blocks) (filter (λ other. bin_of other == bin) blocks))) (eq-eqb (bin_of block) bin is)
 
 pub firsts-there : (bin : ℕ) (block : Block) (blocks : List Block) → (bin_of block ≡ bin → ⊥) → firsts_in bin (block ∷ blocks) ≡ firsts_in bin blocks
-firsts-there bin block blocks differ = ap (λ b. map (λ other. other.first) (cond b (block ∷ filter (λ other. bin_of other == bin) blocks) (filter (λ other. bin_of other == bin) blocks))) (eq_false (bin_of block) bin differ)
+firsts-there bin block blocks differ = ap (λ b. map (λ other. other.first) (cond b (block ∷ filter (λ other. bin_of other == bin) blocks) (filter (λ other. bin_of other == bin) blocks))) (ne_eqb (bin_of block) bin differ)
 
 -- blocks with one more
 pub are-cons : (block : Block) (blocks : List Block) → AreBlocks blocks → IsNew blocks block → AreBlocks (block ∷ blocks)
@@ -106,22 +95,22 @@ fit_entered lists begins ends blocks first granules fit fresh = record {
     begun : (place : ℕ) → (place ≡ first) ⊎ (place ≡ first → ⊥) → slice_index_or (set begins first granules) place 0 ≡ granules_from place (block_at first granules ∷ blocks)
     begun place (inl same) = subst (λ n. slice_index_or (set begins first granules) n 0 ≡ granules_from n (block_at first granules ∷ blocks)) (sym same)
         (get_or-set_same begins first granules 0 (omega (arith, fit.begins_long, fresh.is.inside))
-        ∙ sym (ap (λ b. granules_in (cond b (Some (block_at first granules)) (find (begins_at first) blocks))) (eq_true first first refl)))
+        ∙ sym (ap (λ b. granules_in (cond b (Some (block_at first granules)) (find (begins_at first) blocks))) (eq-eqb first first refl)))
     begun place (inr differ) = get_or-set_other begins first place granules 0 differ ∙ fit.begins_are place
-        ∙ sym (ap (λ b. granules_in (cond b (Some (block_at first granules)) (find (begins_at place) blocks))) (eq_false place first differ))
+        ∙ sym (ap (λ b. granules_in (cond b (Some (block_at first granules)) (find (begins_at place) blocks))) (ne_eqb place first differ))
 
     ended : (place : ℕ) → (place ≡ first + granules) ⊎ (place ≡ first + granules → ⊥) → slice_index_or (set ends (first + granules) granules) place 0 ≡ granules_to place (block_at first granules ∷ blocks)
     ended place (inl same) = subst (λ n. slice_index_or (set ends (first + granules) granules) n 0 ≡ granules_to n (block_at first granules ∷ blocks)) (sym same)
         (get_or-set_same ends (first + granules) granules 0 (omega (arith, fit.ends_long, fresh.is.inside))
-        ∙ sym (ap (λ b. granules_in (cond b (Some (block_at first granules)) (find (ends_at (first + granules)) blocks))) (eq_true (first + granules) (first + granules) refl)))
+        ∙ sym (ap (λ b. granules_in (cond b (Some (block_at first granules)) (find (ends_at (first + granules)) blocks))) (eq-eqb (first + granules) (first + granules) refl)))
     ended place (inr differ) = get_or-set_other ends (first + granules) place granules 0 differ ∙ fit.ends_are place
-        ∙ sym (ap (λ b. granules_in (cond b (Some (block_at first granules)) (find (ends_at place) blocks))) (eq_false (first + granules) place (λ same. differ (sym same))))
+        ∙ sym (ap (λ b. granules_in (cond b (Some (block_at first granules)) (find (ends_at place) blocks))) (ne_eqb (first + granules) place (λ same. differ (sym same))))
 
 -- a block leaves its bin
 pub fit_left : (lists : Lists) (begins ends : List ℕ) (blocks : List Block) (first granules : ℕ) → BinsFit lists begins ends blocks → Contains blocks (block_at first granules) →
     BinsFit (without lists (min granules 512 - 1) first) (set begins first 0) (set ends (first + granules) 0) (without_from first blocks)
 fit_left lists begins ends blocks first granules fit inside = record {
-  bins = length-set lists.lists (min granules 512 - 1) (dropped first (members lists (min granules 512 - 1))) ∙ fit.bins;
+  bins = length-set lists.lists (min granules 512 - 1) (list_without first (members lists (min granules 512 - 1))) ∙ fit.bins;
   places = fit.places;
   begins_long = length-set begins first 0 ∙ fit.begins_long;
   ends_long = length-set ends (first + granules) 0 ∙ fit.ends_long;
@@ -145,8 +134,8 @@ fit_left lists begins ends blocks first granules fit inside = record {
     swapped p other = go (p other) (other.first == first) (first == other.first) (turned (cases_eq other.first first))
       where
         turned : (other.first ≡ first) ⊎ (other.first ≡ first → ⊥) → (other.first == first) ≡ (first == other.first)
-        turned (inl same) = eq_true other.first first same ∙ sym (eq_true first other.first (sym same))
-        turned (inr differ) = eq_false other.first first differ ∙ sym (eq_false first other.first (λ e. differ (sym e)))
+        turned (inl same) = eq-eqb other.first first same ∙ sym (eq-eqb first other.first (sym same))
+        turned (inr differ) = ne_eqb other.first first differ ∙ sym (ne_eqb first other.first (λ e. differ (sym e)))
 
         go : (a b c : Bool) → b ≡ c → (a && not b) ≡ (not c && a)
         go true true true e = refl
@@ -169,18 +158,18 @@ fit_left lists begins ends blocks first granules fit inside = record {
         both false false e = refl
 
         go : (first ≡ other.first) ⊎ (first ≡ other.first → ⊥) → (not (begins_at first other) && (bin_of other == k)) ≡ (bin_of other == k)
-        go (inl same) = both (begins_at first other) (bin_of other == k) (eq_false (bin_of other) k (λ e. differ (sym e ∙ sym (ap bin_of (same_first other within same)))))
-        go (inr apart) = two (begins_at first other) (bin_of other == k) (eq_false first other.first apart)
+        go (inl same) = both (begins_at first other) (bin_of other == k) (ne_eqb (bin_of other) k (λ e. differ (sym e ∙ sym (ap bin_of (same_first other within same)))))
+        go (inr apart) = two (begins_at first other) (bin_of other == k) (ne_eqb first other.first apart)
 
     listed : (k : ℕ) → k < 512 → (k ≡ min granules 512 - 1) ⊎ (k ≡ min granules 512 - 1 → ⊥) → members (without lists (min granules 512 - 1) first) k ≡ firsts_in k (without_from first blocks)
     listed k below (inl same) = subst (λ n. members (without lists n first) k ≡ firsts_in k (without_from first blocks)) same
-        (member_here lists k (dropped first (members lists k)) (omega (arith, fit.bins, below))
-        ∙ ap (dropped first) (fit.listed k below)
+        (member_here lists k (list_without first (members lists k)) (omega (arith, fit.bins, below))
+        ∙ ap (list_without first) (fit.listed k below)
         ∙ filter-map (λ block. block.first) (λ other. not (other == first)) (filter (λ block. bin_of block == k) blocks)
         ∙ ap (map (λ block. block.first)) (filter-twice (λ block. not (block.first == first)) (λ block. bin_of block == k) blocks
         ∙ filter-same (λ block. (bin_of block == k) && not (block.first == first)) (λ block. not (begins_at first block) && (bin_of block == k)) blocks (λ other within. swapped (λ block. bin_of block == k) other)
         ∙ sym (filter-twice (λ block. bin_of block == k) (λ block. not (begins_at first block)) blocks)))
-    listed k below (inr differ) = member_there lists (min granules 512 - 1) k (dropped first (members lists (min granules 512 - 1))) differ ∙ fit.listed k below
+    listed k below (inr differ) = member_there lists (min granules 512 - 1) k (list_without first (members lists (min granules 512 - 1))) differ ∙ fit.listed k below
         ∙ ap (map (λ block. block.first)) (sym (filter-twice (λ block. bin_of block == k) (λ block. not (begins_at first block)) blocks
         ∙ filter-same (λ block. not (begins_at first block) && (bin_of block == k)) (λ block. bin_of block == k) blocks (kept k differ)))
 
@@ -190,16 +179,16 @@ fit_left lists begins ends blocks first granules fit inside = record {
         ∙ sym (ap granules_in (find-gone (begins_at first) (λ block. not (begins_at first block)) blocks (λ other within passes. ap not passes))))
     begun place (inr differ) = get_or-set_other begins first place 0 0 differ ∙ fit.begins_are place
         ∙ sym (ap granules_in (find-left (begins_at place) (λ block. not (begins_at first block)) blocks
-        (λ other within passes. ap not (eq_false first other.first (λ same. differ (true_eq place other.first passes ∙ sym same))))))
+        (λ other within passes. ap not (ne_eqb first other.first (λ same. differ (eqb-true place other.first passes ∙ sym same))))))
 
     ended : (place : ℕ) → (place ≡ first + granules) ⊎ (place ≡ first + granules → ⊥) → slice_index_or (set ends (first + granules) 0) place 0 ≡ granules_to place (without_from first blocks)
     ended place (inl same) = subst (λ n. slice_index_or (set ends (first + granules) 0) n 0 ≡ granules_to n (without_from first blocks)) (sym same)
         (get_or-set_same ends (first + granules) 0 0 (omega (arith, fit.ends_long, is.inside))
         ∙ sym (ap granules_in (find-gone (ends_at (first + granules)) (λ block. not (begins_at first block)) blocks
-        (λ other within passes. ap not (eq_true first other.first (ap (λ (block : Block). block.first) (same_end other within (sym (true_eq (other.first + other.granules) (first + granules) passes)))))))))
+        (λ other within passes. ap not (eq-eqb first other.first (ap (λ (block : Block). block.first) (same_end other within (sym (eqb-true (other.first + other.granules) (first + granules) passes)))))))))
     ended place (inr differ) = get_or-set_other ends (first + granules) place 0 0 differ ∙ fit.ends_are place
         ∙ sym (ap granules_in (find-left (ends_at place) (λ block. not (begins_at first block)) blocks
-        (λ other within passes. ap not (eq_false first other.first (λ same. differ (sym (true_eq (other.first + other.granules) place passes) ∙ ap (λ (block : Block). block.first + block.granules) (sym (same_first other within same))))))))
+        (λ other within passes. ap not (ne_eqb first other.first (λ same. differ (sym (eqb-true (other.first + other.granules) place passes) ∙ ap (λ (block : Block). block.first + block.granules) (sym (same_first other within same))))))))
 
 -- the block that an array names
 pub from_found : (place granules : ℕ) (blocks : List Block) → granules_from place blocks ≡ granules → 0 < granules → Contains blocks (block_at place granules)
@@ -209,7 +198,7 @@ from_found place granules blocks is some = go (find (begins_at place) blocks) re
     go None e g = absurd (omega (arith, g, some))
     go (Some block) e g =
         let at = find-Some (begins_at place) blocks block e in
-        let here : block ≡ block_at place granules = ap (λ n. block_at n block.granules) (sym (true_eq place block.first at.1)) ∙ ap (λ n. block_at place n) g in
+        let here : block ≡ block_at place granules = ap (λ n. block_at n block.granules) (sym (eqb-true place block.first at.1)) ∙ ap (λ n. block_at place n) g in
         subst (Contains blocks) here at.0
 
 pub to_found : (place granules : ℕ) (blocks : List Block) → granules_to place blocks ≡ granules → 0 < granules → (granules ≤ place) × Contains blocks (block_at (place - granules) granules)
@@ -219,7 +208,7 @@ to_found place granules blocks is some = go (find (ends_at place) blocks) refl i
     go None e g = absurd (omega (arith, g, some))
     go (Some block) e g =
         let at = find-Some (ends_at place) blocks block e in
-        let ends : block.first + block.granules ≡ place = true_eq (block.first + block.granules) place at.1 in
+        let ends : block.first + block.granules ≡ place = eqb-true (block.first + block.granules) place at.1 in
         let first : block.first ≡ place - granules = omega (arith, ends, g) in
         let here : block ≡ block_at (place - granules) granules = ap (λ n. block_at n block.granules) first ∙ ap (λ n. block_at (place - granules) n) g in
         (omega (arith, ends, g), subst (Contains blocks) here at.0)
@@ -230,8 +219,8 @@ without_one blocks block are inside = filter-same (λ other. not (begins_at bloc
     (λ other within. ap not (go other within (cases_eq block.first other.first)))
   where
     go : (other : Block) → Contains blocks other → (block.first ≡ other.first) ⊎ (block.first ≡ other.first → ⊥) → begins_at block.first other ≡ ends_at (block.first + block.granules) other
-    go other within (inl same) = eq_true block.first other.first same ∙ sym (eq_true (other.first + other.granules) (block.first + block.granules) (ap (λ (b : Block). b.first + b.granules) (sym (one_first blocks are block other inside within same))))
-    go other within (inr differ) = eq_false block.first other.first differ ∙ sym (eq_false (other.first + other.granules) (block.first + block.granules) (λ same. differ (ap (λ (b : Block). b.first) (one_end blocks are block other inside within (sym same)))))
+    go other within (inl same) = eq-eqb block.first other.first same ∙ sym (eq-eqb (other.first + other.granules) (block.first + block.granules) (ap (λ (b : Block). b.first + b.granules) (sym (one_first blocks are block other inside within same))))
+    go other within (inr differ) = ne_eqb block.first other.first differ ∙ sym (ne_eqb (other.first + other.granules) (block.first + block.granules) (λ same. differ (ap (λ (b : Block). b.first) (one_end blocks are block other inside within (sym same)))))
 
 -- where no block begins or ends none is left out
 pub none_from : (place : ℕ) (blocks : List Block) → AreBlocks blocks → granules_from place blocks ≡ 0 → without_from place blocks ≡ blocks
@@ -268,12 +257,12 @@ entered_is_free lists begins ends blocks block fit fresh = go (cases_lt 0 (times
 pub left_is_in : (lists : Lists) (begins ends : List ℕ) (blocks : List Block) (block : Block) → BinsFit lists begins ends blocks → Contains blocks block → 0 < times block.first (members lists (bin_of block))
 left_is_in lists begins ends blocks block fit inside =
     subst (λ xs. 0 < times block.first xs) (sym (fit.listed (bin_of block) (omega arith)))
-    (times_made (λ (b : Block). b.first) (filter (λ b. bin_of b == bin_of block) blocks) block (Contains-filter_from (λ b. bin_of b == bin_of block) blocks block inside (eq_true (bin_of block) (bin_of block) refl)))
+    (times_made (λ (b : Block). b.first) (filter (λ b. bin_of b == bin_of block) blocks) block (Contains-filter_from (λ b. bin_of b == bin_of block) blocks block inside (eq-eqb (bin_of block) (bin_of block) refl)))
 
 -- what a put makes of the blocks
 pub behind_is : (index : ℕ) (blocks : List Block) → AreBlocks blocks → granules_from (index + 2) (without_to index blocks) ≡ granules_from (index + 2) blocks
 behind_is index blocks are = ap granules_in (find-left (begins_at (index + 2)) (λ block. not (ends_at index block)) blocks
-    (λ block inside passes. ap not (eq_false (block.first + block.granules) index (λ same. absurd (let f = true_eq (index + 2) block.first passes in omega (arith, f, same))))))
+    (λ block inside passes. ap not (ne_eqb (block.first + block.granules) index (λ same. absurd (let f = eqb-true (index + 2) block.first passes in omega (arith, f, same))))))
 
 pub put_is : (index : ℕ) (blocks : List Block) → AreBlocks blocks →
     block_at (index - granules_to index blocks) (granules_to index blocks + (2 + granules_from (index + 2) (without_to index blocks))) ∷ without_from (index + 2) (without_to index blocks) ≡ after_put (slab_block index) blocks
@@ -291,7 +280,7 @@ put_is index blocks are =
 
     first_is : (o : Option Block) → find (ends_at index) blocks ≡ o → index - granules_in o ≡ joined_first (slab_block index) o
     first_is None e = omega arith
-    first_is (Some block) e = let ends = true_eq (block.first + block.granules) index (find-Some (ends_at index) blocks block e).1 in omega (arith, ends)
+    first_is (Some block) e = let ends = eqb-true (block.first + block.granules) index (find-Some (ends_at index) blocks block e).1 in omega (arith, ends)
 
 -- the joined block is a new one
 pub put_is_new : (index : ℕ) (blocks : List Block) → AreBlocks blocks → IsClear index blocks →
@@ -313,20 +302,20 @@ put_is_new index blocks are clear = subst (λ n. IsNew (without_from (index + 2)
     is (Some one) None e f =
         let at = find-Some (ends_at index) blocks one e in
         let good = are.each one at.0 in
-        let ends = true_eq (one.first + one.granules) index at.1 in
+        let ends = eqb-true (one.first + one.granules) index at.1 in
         record { even = omega (arith, good.even, ends); pairs = omega (arith, good.pairs); some = omega arith; inside = omega (arith, ends, clear.inside) }
     is None (Some two) e f =
         let at = find-Some (begins_at (index + 2)) blocks two f in
         let good = are.each two at.0 in
-        let begins = true_eq (index + 2) two.first at.1 in
+        let begins = eqb-true (index + 2) two.first at.1 in
         record { even = omega (arith, clear.even); pairs = omega (arith, good.pairs); some = omega arith; inside = omega (arith, begins, good.inside) }
     is (Some one) (Some two) e f =
         let at1 = find-Some (ends_at index) blocks one e in
         let good1 = are.each one at1.0 in
-        let ends = true_eq (one.first + one.granules) index at1.1 in
+        let ends = eqb-true (one.first + one.granules) index at1.1 in
         let at2 = find-Some (begins_at (index + 2)) blocks two f in
         let good2 = are.each two at2.0 in
-        let begins = true_eq (index + 2) two.first at2.1 in
+        let begins = eqb-true (index + 2) two.first at2.1 in
         record { even = omega (arith, good1.even, ends); pairs = omega (arith, good1.pairs, good2.pairs); some = omega arith; inside = omega (arith, ends, begins, good2.inside) }
 
     -- another block lies before the neighbour before, or behind the slab
@@ -334,7 +323,7 @@ put_is_new index blocks are clear = subst (λ n. IsNew (without_from (index + 2)
     left_of other inside left None e below = omega (arith, below)
     left_of other inside left (Some one) e below =
         let at = find-Some (ends_at index) blocks one e in
-        let ends = true_eq (one.first + one.granules) index at.1 in
+        let ends = eqb-true (one.first + one.granules) index at.1 in
         elim (are.apart one other at.0 inside) [
           | inl same ↦ absurd (true≢false (sym left ∙ ap not (subst (λ b. ends_at index b ≡ true) same at.1)))
           | inr (inl before) ↦ absurd (omega (arith, ends, before, below, (are.each other inside).some))
@@ -345,7 +334,7 @@ put_is_new index blocks are clear = subst (λ n. IsNew (without_from (index + 2)
     right_of other inside left None e above = omega (arith, above)
     right_of other inside left (Some two) e above =
         let at = find-Some (begins_at (index + 2)) blocks two e in
-        let begins = true_eq (index + 2) two.first at.1 in
+        let begins = eqb-true (index + 2) two.first at.1 in
         elim (are.apart two other at.0 inside) [
           | inl same ↦ absurd (true≢false (sym left ∙ ap not (subst (λ b. begins_at (index + 2) b ≡ true) same at.1)))
           | inr (inl before) ↦ omega (arith, begins, before)
@@ -354,7 +343,7 @@ put_is_new index blocks are clear = subst (λ n. IsNew (without_from (index + 2)
 
     begins_before : (before : Option Block) → find (ends_at index) blocks ≡ before → granules_in before ≤ index
     begins_before None e = omega arith
-    begins_before (Some one) e = let ends = true_eq (one.first + one.granules) index (find-Some (ends_at index) blocks one e).1 in omega (arith, ends)
+    begins_before (Some one) e = let ends = eqb-true (one.first + one.granules) index (find-Some (ends_at index) blocks one e).1 in omega (arith, ends)
 
     apart : (other : Block) → Contains blocks other → not (ends_at index other) ≡ true → not (begins_at (index + 2) other) ≡ true → (before behind : Option Block) → find (ends_at index) blocks ≡ before → find (begins_at (index + 2)) blocks ≡ behind
         → IsApart other (block_at (index - granules_in before) (granules_in before + (2 + granules_in behind)))
@@ -373,7 +362,7 @@ put_fits index blocks are clear =
   where
     begins_before : (before : Option Block) → find (ends_at index) blocks ≡ before → granules_in before ≤ index
     begins_before None e = omega arith
-    begins_before (Some one) e = let ends = true_eq (one.first + one.granules) index (find-Some (ends_at index) blocks one e).1 in omega (arith, ends)
+    begins_before (Some one) e = let ends = eqb-true (one.first + one.granules) index (find-Some (ends_at index) blocks one e).1 in omega (arith, ends)
 
 -- each block is found where a slab is looked for
 pub each_fits : (block : Block) → IsBlock block → fits block ≡ true
@@ -440,16 +429,16 @@ pub own_granules : (blocks : List Block) (block : Block) → AreBlocks blocks �
 own_granules blocks block are inside = go (find (begins_at block.first) blocks) refl
   where
     go : (o : Option Block) → find (begins_at block.first) blocks ≡ o → granules_in (find (begins_at block.first) blocks) ≡ block.granules
-    go None e = absurd (true≢false (sym (eq_true block.first block.first refl) ∙ find-None (begins_at block.first) blocks e block inside))
+    go None e = absurd (true≢false (sym (eq-eqb block.first block.first refl) ∙ find-None (begins_at block.first) blocks e block inside))
     go (Some other) e = let at = find-Some (begins_at block.first) blocks other e in
-        ap granules_in e ∙ ap (λ (b : Block). b.granules) (sym (one_first blocks are block other inside at.0 (true_eq block.first other.first at.1)))
+        ap granules_in e ∙ ap (λ (b : Block). b.granules) (sym (one_first blocks are block other inside at.0 (eqb-true block.first other.first at.1)))
 
 -- what is left of a block of which a slab was cut is a new one
 pub rest_is_new : (blocks : List Block) (block : Block) → AreBlocks blocks → Contains blocks block → 0 < block.granules - 2 → IsNew (without_from block.first blocks) (block_at (block.first + 2) (block.granules - 2))
 rest_is_new blocks block are inside some = record {
   is = record { even = omega (arith, good.even); pairs = omega (arith, good.pairs); some = some; inside = omega (arith, good.inside, some) };
   apart = λ other within. let at = Contains-filter (λ b. not (begins_at block.first b)) blocks other within in elim (are.apart block other inside at.0) [
-    | inl same ↦ absurd (true≢false (sym at.1 ∙ ap not (eq_true block.first other.first (ap (λ (b : Block). b.first) same))))
+    | inl same ↦ absurd (true≢false (sym at.1 ∙ ap not (eq-eqb block.first other.first (ap (λ (b : Block). b.first) same))))
     | inr (inl before) ↦ inr (omega (arith, before, some))
     | inr (inr behind) ↦ inl (omega (arith, behind))
   ];

@@ -2,20 +2,18 @@
 use Rattle.std.proofs.Common.{◌≡◌, ℕ, ◌+◌, ◌-◌, ◌*◌, ◌/◌, ◌%◌, ◌<◌, ◌≤◌, Bool, true, false, ◌&&◌, ◌==◌, nat_lt, ◌⊎◌, inl, inr, List, [], ◌∷◌, ◌++◌, Some, None, refl, sym, ap, ◌∙◌, subst, arith, slice_get, is_some}
 use Rattle.std.specs.Prelude.{Contains, find, if◌then◌else◌, unwrap_or}
 use Rattle.std.specs.declared.option.Option.{Option}
-use Rattle.std.proofs.lemmas.Bool.Decides.{nat_tests}
-use Rattle.std.proofs.lemmas.Bool.{cases_eq, true≢false, and_parts}
+use Rattle.std.proofs.lemmas.Bool.{cases_eq, true≢false, and_parts, eq-eqb, ne_eqb, eqb-true, lt-ltb, ltb-true}
 use Rattle.pool_types.specs.declared.values.Place.{Place}
 use Rattle.pool_types.specs.declared.values.Region.{Region}
-use Rattle.size_classes.specs.Classes.{class_objects, first_class}
-use Rattle.size_classes.proofs.Sizes.{class_objects-least}
-use Rattle.size_classes.proofs.Positions.{first_class-some}
-use Rattle.slab_core.specs.Layout.{object_offset}
-use Rattle.slab_core.proofs.Places.{object_offset-eights}
+use Rattle.size_classes.specs.Classes.{class_objects, class_of}
+use Rattle.size_classes.proofs.CallerLemmas.{class_objects-least, class_of-some, object_offset-eights}
+use Rattle.size_classes.specs.Layout.{object_offset}
 use Rattle.plain_lists.specs.Lists.{OwnSlab, Block, Lists, begun, has_free, whole_block, first_region, lies_on}
 use Rattle.plain_lists.specs.Backend.{first_fit, rests}
 use Rattle.plain_lists.specs.Whole.{Spot, Room, gives, begins_in, room_in, block_room, region_room, malloc_of, malloc_from, class_at, spot_at, spot_in}
 use Rattle.plain_lists.specs.Good.{AreGood, IsGoodSlab}
-use Rattle.plain_lists.proofs.Members.{Contains-first, Contains-cons, find-Some}
+use Rattle.list_laws.proofs.Members.{Contains-first, Contains-cons}
+use Rattle.list_laws.proofs.Finds.{find-Some, find-nothing, find-same}
 use Rattle.plain_lists.proofs.Granules.{lies_on-true, lies_on-parts}
 use Rattle.plain_lists.proofs.Beside.{AreGoodBeside, beside_none}
 use Rattle.plain_lists.proofs.BlockChanges.{no_block}
@@ -32,8 +30,7 @@ use Rattle.plain_pool.specs.declared.bins.Bins.{Bins}
 use Rattle.plain_pool.specs.Bins.{AreBins, IsCut}
 use Rattle.plain_pool.specs.Slabs.{slab_in, room_of, IsKept, AreKept, IsIn}
 use Rattle.plain_pool.specs.Pool.{Has, Stands, IsRoomOf}
-use Rattle.plain_pool.proofs.BinLemmas.{eq_true, eq_false, true_eq, fit_is_block}
-use Rattle.plain_pool.proofs.Finds.{find-nothing, find-same}
+use Rattle.plain_pool.proofs.BinLemmas.{fit_is_block}
 
 -- good slabs are kept and placed
 pub kept_good : (slab : OwnSlab) → IsGoodSlab slab → IsKept slab
@@ -145,7 +142,7 @@ no_room_came pool lists is = go (room_in lists) refl is
 -- no slab is in the room
 pub room_free : (pool : PoolArrays) (lists : Lists) (index : ℕ) → (came : Came pool lists index) → slab_in (index / 2) came.room.lists.slabs ≡ None
 room_free pool lists index came = find-nothing (λ slab. slab.index == 2 * (index / 2)) came.room.lists.slabs
-    (λ slab member. eq_false slab.index (2 * (index / 2)) (λ same. no_slab_in_room came.room.index [] came.room.lists came.good.good slab member (let e = came.even in let i = came.index_is in omega (arith, same, e, i))))
+    (λ slab member. ne_eqb slab.index (2 * (index / 2)) (λ same. no_slab_in_room came.room.index [] came.room.lists came.good.good slab member (let e = came.even in let i = came.index_is in omega (arith, same, e, i))))
 
 -- the slabs with one that begins there
 pub begun_kept : (pool : PoolArrays) (lists : Lists) (index class : ℕ) → (came : Came pool lists index) → class < 26 → AreKept (begun (2 * (index / 2)) class ∷ came.room.lists.slabs)
@@ -178,10 +175,7 @@ begun_kept pool lists index class came exists = record {
     two slab other (inr a) (inr b) same = old.placed.one slab other a b same
 
 pub begun_free : (index class : ℕ) → class < 26 → has_free class (begun index class) ≡ true
-begun_free index class exists = ap (λ b. b && nat_lt 0 (class_objects class)) (eq_true class class refl) ∙ lt_true 0 (class_objects class) (let l = class_objects-least class exists in omega (arith, l))
-  where
-    lt_true : (a b : ℕ) → a < b → nat_lt a b ≡ true
-    lt_true a b below = grind (arith, nat_tests)
+begun_free index class exists = ap (λ b. b && nat_lt 0 (class_objects class)) (eq-eqb class class refl) ∙ lt-ltb 0 (class_objects class) (let l = class_objects-least class exists in omega (arith, l))
 
 pub begun_in : (index class : ℕ) (slabs : List OwnSlab) → IsIn (index / 2) (begun (2 * (index / 2)) class) (begun (2 * (index / 2)) class ∷ slabs)
 begun_in index class slabs = record { member = Contains-first (begun (2 * (index / 2)) class) slabs; at_room = refl }
@@ -222,11 +216,11 @@ found_none_free lists class is = go (find (has_free class) lists.slabs) refl is
     go None e f = e
     go (Some slab) e f = absurd (let no = f in cc)
 
-pub class_is : (size class : ℕ) → Some class ≡ first_class size → class_at size ≡ class
+pub class_is : (size class : ℕ) → Some class ≡ class_of size → class_at size ≡ class
 class_is size class found = sym (ap (λ (o : Option ℕ). unwrap_or o 0) found)
 
-pub class_exists : (size : ℕ) → size ≤ 8128 → None ≡ first_class size → ⊥
-class_exists size small none = let found = first_class-some size small in let no : ◌≡◌ {A = Option ℕ} (Some found.0) None = sym found.1 ∙ sym none in cc
+pub class_exists : (size : ℕ) → size ≤ 8128 → None ≡ class_of size → ⊥
+class_exists size small none = let found = class_of-some size small in let no : ◌≡◌ {A = Option ℕ} (Some found.0) None = sym found.1 ∙ sym none in cc
 
 -- an object can begin at the place of a spot
 pub spot_unit : (lists : Lists) (place : Place) (spot : Spot) → AreGood lists → spot_at lists place ≡ Some spot → ((place.pool == 0) && ((place.region == 0) && (nat_lt place.offset 1048576 && (place.offset % 8 == 0)))) ≡ true
@@ -239,9 +233,9 @@ spot_unit lists place spot good found =
     let eights = object_offset-eights spot.slab.class spot.object in
     let even = kept.placed.even spot.slab at.listed in
     all (place.pool == 0) (place.region == 0) (nat_lt place.offset 1048576) (place.offset % 8 == 0)
-    (eq_true place.pool 0 at.pool_is) (eq_true place.region 0 at.region_is)
-    (lt_true place.offset 1048576 (below place.offset spot.slab.index on.1 inside))
-    (eq_true (place.offset % 8) 0 (unit place.offset spot.slab.index (object_offset spot.slab.class spot.object) on.0 within.0 eights))
+    (eq-eqb place.pool 0 at.pool_is) (eq-eqb place.region 0 at.region_is)
+    (lt-ltb place.offset 1048576 (below place.offset spot.slab.index on.1 inside))
+    (eq-eqb (place.offset % 8) 0 (unit place.offset spot.slab.index (object_offset spot.slab.class spot.object) on.0 within.0 eights))
   where
     all : (a b c d : Bool) → a ≡ true → b ≡ true → c ≡ true → d ≡ true → (a && (b && (c && d))) ≡ true
     all true true true true e f g h = refl
@@ -249,9 +243,6 @@ spot_unit lists place spot good found =
     all true false c d e f g h = absurd (true≢false (sym f))
     all true true false d e f g h = absurd (true≢false (sym g))
     all true true true false e f g h = absurd (true≢false (sym h))
-
-    lt_true : (a b : ℕ) → a < b → nat_lt a b ≡ true
-    lt_true a b below = grind (arith, nat_tests)
 
     below : (offset index : ℕ) → offset / 8192 < index + 2 → index + 2 ≤ 128 → offset < 1048576
     below offset index on inside = omega (arith, on, inside)
@@ -279,12 +270,9 @@ unit_parts place is =
     let three = and_parts (nat_lt place.offset 1048576) (place.offset % 8 == 0) two.1 in
     record {
       zeros = ap (λ b. b && (place.region == 0)) one.0 ∙ two.0;
-      below = true_lt place.offset 1048576 three.0;
-      eights = let z = true_eq (place.offset % 8) 0 three.1 in omega (arith, z);
+      below = ltb-true place.offset 1048576 three.0;
+      eights = let z = eqb-true (place.offset % 8) 0 three.1 in omega (arith, z);
     }
-  where
-    true_lt : (a b : ℕ) → nat_lt a b ≡ true → a < b
-    true_lt a b is = grind (arith, nat_tests)
 
 -- the spot at a unit is the one in its room
 pub spot_in_room : (lists : Lists) (place : Place) → AreGood lists → UnitParts place → spot_in place.offset (slab_in (place.offset / 16384) lists.slabs) ≡ spot_at lists place
@@ -303,8 +291,8 @@ spot_in_room lists place good unit =
         off index offset even a b = omega (arith, even, a, b)
 
         go : (index ≡ 2 * (offset / 16384)) ⊎ (index ≡ 2 * (offset / 16384) → ⊥) → (index == 2 * (offset / 16384)) ≡ lies_on index 2 (offset / 8192)
-        go (inl is) = eq_true index (2 * (offset / 16384)) is ∙ sym (subst (λ n. lies_on n 2 (offset / 8192) ≡ true) (sym is) (lies_on-true (2 * (offset / 16384)) 2 (offset / 8192) (on offset).0 (on offset).1))
-        go (inr differ) = eq_false index (2 * (offset / 16384)) differ ∙ sym (two (lies_on index 2 (offset / 8192)) refl)
+        go (inl is) = eq-eqb index (2 * (offset / 16384)) is ∙ sym (subst (λ n. lies_on n 2 (offset / 8192) ≡ true) (sym is) (lies_on-true (2 * (offset / 16384)) 2 (offset / 8192) (on offset).0 (on offset).1))
+        go (inr differ) = ne_eqb index (2 * (offset / 16384)) differ ∙ sym (two (lies_on index 2 (offset / 8192)) refl)
           where
             two : (b : Bool) → lies_on index 2 (offset / 8192) ≡ b → lies_on index 2 (offset / 8192) ≡ false
             two false e = e
@@ -316,8 +304,8 @@ none_there None e = refl
 none_there (Some x) e = absurd (true≢false e)
 
 -- what a malloc comes to
-pub found_is : (lists : Lists) (size class : ℕ) (slab : OwnSlab) → Some class ≡ first_class size → find (has_free class) lists.slabs ≡ Some slab → gives lists slab ≡ malloc_of lists (class_at size)
+pub found_is : (lists : Lists) (size class : ℕ) (slab : OwnSlab) → Some class ≡ class_of size → find (has_free class) lists.slabs ≡ Some slab → gives lists slab ≡ malloc_of lists (class_at size)
 found_is lists size class slab exists found = sym (ap (malloc_of lists) (class_is size class exists) ∙ ap (malloc_from lists class) found)
 
-pub none_is : (lists : Lists) (size class : ℕ) → Some class ≡ first_class size → find (has_free class) lists.slabs ≡ None → begins_in lists class (room_in lists) ≡ malloc_of lists (class_at size)
+pub none_is : (lists : Lists) (size class : ℕ) → Some class ≡ class_of size → find (has_free class) lists.slabs ≡ None → begins_in lists class (room_in lists) ≡ malloc_of lists (class_at size)
 none_is lists size class exists found = sym (ap (malloc_of lists) (class_is size class exists) ∙ ap (malloc_from lists class) found)

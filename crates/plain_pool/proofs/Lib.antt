@@ -1,4 +1,4 @@
-pub mod Finds
+pub mod Times
 pub mod BinLemmas
 pub mod SlabLemmas
 pub mod SlabCalls

@@ -4,32 +4,33 @@ use Rattle.std.proofs.Common.{◌≡◌, ℕ, ◌+◌, ◌-◌, ◌*◌, ◌/◌
 use Rattle.std.specs.Prelude.{Contains, filter, find, slice_index_or, is_some}
 use Rattle.std.specs.declared.option.Option.{Option}
 use Rattle.std.proofs.lemmas.Bool.Decides.{nat_tests}
-use Rattle.std.proofs.lemmas.Bool.{cases_eq, cases_lt, true≢false, eqb-true, ne_eqb}
+use Rattle.std.proofs.lemmas.Bool.{cases_eq, cases_lt, true≢false, eqb-true, ne_eqb, eq-eqb}
 use Rattle.std.proofs.lemmas.List.{get_or-set_same, get_or-set_other, get_or-replicate, get_or_past, get_or_default, length-replicate}
 use Rattle.size_classes.specs.Classes.{class_objects}
 use Rattle.slab_core.specs.declared.SlabRec.{SlabRec}
 use Rattle.slab_core.specs.Slabs.{IsValid, IsNewest, IsBelowHead, after_take, after_free, IsUsedUp, next_object as next_of}
-use Rattle.index_lists.specs.Lists.{Lists, members, with_first, without as left_out, dropped, times as listed_times, times_listed, empty_lists}
+use Rattle.index_lists.specs.Lists.{Lists, members, with_first, without as left_out, list_without, times as listed_times, times_listed, empty_lists}
 use Rattle.index_lists.specs.Lists.{AreApart}
-use Rattle.index_lists.proofs.Listed.{in_one, list_of, once_in, below_in}
-use Rattle.index_lists.proofs.Times.{not_first, not_behind, none_behind}
+use Rattle.index_lists.proofs.CallerLemmas.{in_one, list_of, once_in, below_in, not_first, not_behind, none_behind}
 use Rattle.std.specs.List.{IsDistinct, AllByRecursion, list_any}
 use Rattle.std.proofs.lemmas.Map.Steps.{length-le_from_distinct_below}
 use Rattle.plain_lists.proofs.Rooms.{Some-same}
 use Rattle.plain_lists.specs.Lists.{OwnSlab, begun, has_free, next_object, given, taken_back, changed, without}
 use Rattle.plain_lists.specs.Whole.{Spot, object_of, spot_held, spot_of, spot_in}
 use Rattle.plain_lists.specs.Good.{IsHeld, times, nones}
-use Rattle.plain_lists.proofs.Gets.{slice_get-set_same, slice_get-set_other, slice_get-inside, slice_get-end, slice_get-within, slice_get-past, times-same, times-other}
+use Rattle.plain_lists.proofs.Gets.{times-same, times-other}
 use Rattle.plain_lists.proofs.Slabs.{given-private, given-next, next_object-private, next_object-next}
 use Rattle.plain_lists.proofs.Calls.{has_free-parts}
-use Rattle.plain_lists.proofs.Members.{Contains-first, Contains-none, Contains-other, Contains-cons, Contains-filter, Contains-filter_from, find-None}
+use Rattle.list_laws.proofs.Gets.{slice_get-set_same, slice_get-set_other, slice_get-end, slice_get-within}
+use Rattle.std.proofs.lemmas.Option.{slice_get_within, slice_get_past}
+use Rattle.list_laws.proofs.Members.{Contains-first, Contains-none, Contains-other, Contains-cons, Contains-filter, Contains-filter_from}
+use Rattle.list_laws.proofs.Finds.{find-None, filter-same, find-left, find-gone, filter-twice, filter-map}
+use Rattle.plain_pool.proofs.Times.{times_map, times_made}
 use Rattle.plain_lists.proofs.SlabLists.{Contains-without}
 use Rattle.plain_pool.specs.declared.marks.Mark.{Mark}
 use Rattle.plain_pool.specs.declared.marks.Mark.TheVariants.{Blank, Granted, Link}
 use Rattle.plain_pool.specs.Marks.{number_in, link_in}
 use Rattle.plain_pool.specs.Slabs.{record_of, record_in, slab_in, room_of, rooms_of, unit_at, mark_at, number_of, AreNumbers, AreLinks, SlabsFit, ArePlaced, IsKept, AreKept, IsIn, IsUnheld}
-use Rattle.plain_pool.proofs.BinLemmas.{eq_true, eq_false, true_eq}
-use Rattle.plain_pool.proofs.Finds.{filter-same, find-left, find-gone, filter-twice, filter-map, times_map, times_made}
 use Rattle.plain_pool.proofs.SlabLemmas.{slab_found, found_in, IsChange, links_set, private_below, fit_changed, unit_below, slab_units_apart}
 
 -- no more members of a list are none than it has
@@ -51,7 +52,7 @@ head_is [] count handed below sum = omega (arith, sum)
 head_is (object ∷ private) count handed below sum = (below object (let t = times-same object private in omega (arith, t)), omega (arith, sum))
 
 pub private_handed : (slab : OwnSlab) → IsKept slab → (object : ℕ) → 0 < times object slab.private → object < length slab.objects
-private_handed slab kept object some = slice_get-inside slab.objects object None (kept.came_back object some)
+private_handed slab kept object some = slice_get_within slab.objects object None (kept.came_back object some)
 
 pub record_valid : (slab : OwnSlab) → IsKept slab → IsValid (record_of slab)
 record_valid slab kept = record {
@@ -120,7 +121,7 @@ given_change slab number kept free = go slab.private refl
     later : (other : ℕ) → (other ≡ length slab.objects → ⊥) → slice_get (slab.objects ++ Some number ∷ []) other ≡ slice_get slab.objects other
     later other differ = elim (cases_lt other (length slab.objects)) [
       | inl below ↦ slice_get-within slab.objects (Some number ∷ []) other below
-      | inr past ↦ slice_get-past (slab.objects ++ Some number ∷ []) other (let long = length-append slab.objects (Some number ∷ []) in let more = above other past differ in omega (arith, long, more)) ∙ sym (slice_get-past slab.objects other past)
+      | inr past ↦ slice_get_past (slab.objects ++ Some number ∷ []) other (let long = length-append slab.objects (Some number ∷ []) in let more = above other past differ in omega (arith, long, more)) ∙ sym (slice_get_past slab.objects other past)
     ]
       where
         above : (n : ℕ) → length slab.objects ≤ n → (n ≡ length slab.objects → ⊥) → length slab.objects < n
@@ -199,7 +200,7 @@ pub free_is : (slab : OwnSlab) (class : ℕ) → slab.class ≡ class → (is_so
 free_is slab class same = go slab.private refl
   where
     here : (slab.class == class) ≡ true
-    here = eq_true slab.class class same
+    here = eq-eqb slab.class class same
 
     some : (n : ℕ) → nat_lt 0 (suc n) ≡ true
     some n = grind (arith, nat_tests)
@@ -228,8 +229,8 @@ pub back_change : (slab : OwnSlab) (object number : ℕ) → IsKept slab → IsH
 back_change slab object number kept held = record {
   index_is = refl;
   class_is = refl;
-  exists = let below = slice_get-inside slab.objects object (Some number) held in let few = kept.few in omega (arith, below, few);
-  here = slice_get-set_same slab.objects object None (slice_get-inside slab.objects object (Some number) held);
+  exists = let below = slice_get_within slab.objects object (Some number) held in let few = kept.few in omega (arith, below, few);
+  here = slice_get-set_same slab.objects object None (slice_get_within slab.objects object (Some number) held);
   there = λ other differ. slice_get-set_other slab.objects object other None differ;
 }
 
@@ -293,15 +294,15 @@ begin_fit rooms classes marks slabs room class new fit none inside exists says =
     listed k below (inl same) = subst (λ n. members (with_first classes class room) n ≡ rooms_of n (begun (2 * room) class ∷ slabs)) (sym same)
         (get_or-set_same classes.lists class (room ∷ members classes class) [] (omega (arith, exists, fit.classes_long))
         ∙ ap (λ xs. room ∷ xs) (fit.listed class exists) ∙ ap (λ n. n ∷ rooms_of class slabs) (sym half)
-        ∙ sym (ap (λ b. map (λ (s : OwnSlab). s.index / 2) (cond b (begun (2 * room) class ∷ filter (λ s. s.class == class) slabs) (filter (λ s. s.class == class) slabs))) (eq_true class class refl)))
+        ∙ sym (ap (λ b. map (λ (s : OwnSlab). s.index / 2) (cond b (begun (2 * room) class ∷ filter (λ s. s.class == class) slabs) (filter (λ s. s.class == class) slabs))) (eq-eqb class class refl)))
     listed k below (inr differ) = get_or-set_other classes.lists class k (room ∷ members classes class) [] differ ∙ fit.listed k below
-        ∙ sym (ap (λ b. map (λ (s : OwnSlab). s.index / 2) (cond b (begun (2 * room) class ∷ filter (λ s. s.class == k) slabs) (filter (λ s. s.class == k) slabs))) (eq_false class k (λ e. differ (sym e))))
+        ∙ sym (ap (λ b. map (λ (s : OwnSlab). s.index / 2) (cond b (begun (2 * room) class ∷ filter (λ s. s.class == k) slabs) (filter (λ s. s.class == k) slabs))) (ne_eqb class k (λ e. differ (sym e))))
 
     recorded : (other : ℕ) → (other ≡ room) ⊎ (other ≡ room → ⊥) → slice_index_or (set rooms room (Some new)) other None ≡ record_in (slab_in other (begun (2 * room) class ∷ slabs))
     recorded other (inl same) = ap (λ r. slice_index_or (set rooms room (Some new)) r None) same ∙ get_or-set_same rooms room (Some new) None (omega (arith, inside, fit.rooms_long)) ∙ ap Some says
-        ∙ sym (ap (λ r. record_in (slab_in r (begun (2 * room) class ∷ slabs))) same ∙ ap (λ b. record_in (cond b (Some (begun (2 * room) class)) (slab_in room slabs))) (eq_true (2 * room) (2 * room) refl))
+        ∙ sym (ap (λ r. record_in (slab_in r (begun (2 * room) class ∷ slabs))) same ∙ ap (λ b. record_in (cond b (Some (begun (2 * room) class)) (slab_in room slabs))) (eq-eqb (2 * room) (2 * room) refl))
     recorded other (inr differ) = get_or-set_other rooms room other (Some new) None differ ∙ fit.recorded other
-        ∙ sym (ap (λ b. record_in (cond b (Some (begun (2 * room) class)) (slab_in other slabs))) (eq_false (2 * room) (2 * other) (λ e. differ (omega (arith, e)))))
+        ∙ sym (ap (λ b. record_in (cond b (Some (begun (2 * room) class)) (slab_in other slabs))) (ne_eqb (2 * room) (2 * other) (λ e. differ (omega (arith, e)))))
 
     no_object : (unit : ℕ) (o : Option ℕ) → number_of (spot_of (begun (2 * room) class) o) ≡ None
     no_object unit None = refl
@@ -310,9 +311,9 @@ begin_fit rooms classes marks slabs room class new fit none inside exists says =
     number : (unit : ℕ) → (unit / 2048 ≡ room) ⊎ (unit / 2048 ≡ room → ⊥) → number_of (spot_in (8 * unit) (slab_in (unit / 2048) slabs)) ≡ number_of (spot_in (8 * unit) (slab_in (unit / 2048) (begun (2 * room) class ∷ slabs)))
     number unit (inl same) = ap (λ r. number_of (spot_in (8 * unit) (slab_in r slabs))) same ∙ ap (λ o. number_of (spot_in (8 * unit) o)) none
         ∙ sym (ap (λ r. number_of (spot_in (8 * unit) (slab_in r (begun (2 * room) class ∷ slabs)))) same
-        ∙ ap (λ b. number_of (spot_in (8 * unit) (cond b (Some (begun (2 * room) class)) (slab_in room slabs)))) (eq_true (2 * room) (2 * room) refl)
+        ∙ ap (λ b. number_of (spot_in (8 * unit) (cond b (Some (begun (2 * room) class)) (slab_in room slabs)))) (eq-eqb (2 * room) (2 * room) refl)
         ∙ no_object unit (object_of class (8 * unit - 8192 * (2 * room))))
-    number unit (inr differ) = sym (ap (λ b. number_of (spot_in (8 * unit) (cond b (Some (begun (2 * room) class)) (slab_in (unit / 2048) slabs)))) (eq_false (2 * room) (2 * (unit / 2048)) (λ e. differ (omega (arith, e)))))
+    number unit (inr differ) = sym (ap (λ b. number_of (spot_in (8 * unit) (cond b (Some (begun (2 * room) class)) (slab_in (unit / 2048) slabs)))) (ne_eqb (2 * room) (2 * (unit / 2048)) (λ e. differ (omega (arith, e)))))
 
 -- the room is in no list
 pub begun_is_free : (rooms : List (Option SlabRec)) (classes : Lists) (marks : List Mark) (slabs : List OwnSlab) (room : ℕ) → SlabsFit rooms classes marks slabs → slab_in room slabs ≡ None → ArePlaced slabs → times_listed room classes.lists ≡ 0
@@ -326,7 +327,7 @@ begun_is_free rooms classes marks slabs room fit none placed = go (cases_lt 0 (t
         let (slab, within, same) = times_map room (λ (s : OwnSlab). s.index / 2) (filter (λ s. s.class == class) slabs) (subst (λ xs. 0 < listed_times room xs) (fit.listed class below) inside) in
         let member = (Contains-filter (λ (s : OwnSlab). s.class == class) slabs slab within).0 in
         let even = placed.even slab member in
-        absurd (true≢false (sym (eq_true slab.index (2 * room) (omega (arith, same, even))) ∙ find-None (λ other. other.index == 2 * room) slabs none slab member))
+        absurd (true≢false (sym (eq-eqb slab.index (2 * room) (omega (arith, same, even))) ∙ find-None (λ other. other.index == 2 * room) slabs none slab member))
 
 -- a slab is in its class's list
 pub left_is_in : (rooms : List (Option SlabRec)) (classes : Lists) (marks : List Mark) (slabs : List OwnSlab) (room : ℕ) (slab : OwnSlab) → SlabsFit rooms classes marks slabs → ArePlaced slabs → IsIn room slab slabs → 0 < listed_times room (members classes slab.class)
@@ -334,14 +335,14 @@ left_is_in rooms classes marks slabs room slab fit placed is =
     let half : slab.index / 2 ≡ room = let e = is.at_room in omega (arith, e) in
     subst (λ r. 0 < listed_times r (members classes slab.class)) half
     (subst (λ xs. 0 < listed_times (slab.index / 2) xs) (sym (fit.listed slab.class (placed.classes slab is.member)))
-    (times_made (λ (s : OwnSlab). s.index / 2) (filter (λ s. s.class == slab.class) slabs) slab (Contains-filter_from (λ (s : OwnSlab). s.class == slab.class) slabs slab is.member (eq_true slab.class slab.class refl))))
+    (times_made (λ (s : OwnSlab). s.index / 2) (filter (λ s. s.class == slab.class) slabs) slab (Contains-filter_from (λ (s : OwnSlab). s.class == slab.class) slabs slab is.member (eq-eqb slab.class slab.class refl))))
 
 -- a slab leaves
 pub leave_fit : (rooms : List (Option SlabRec)) (classes : Lists) (marks : List Mark) (slabs : List OwnSlab) (room : ℕ) (slab : OwnSlab) → SlabsFit rooms classes marks slabs → ArePlaced slabs → IsIn room slab slabs → IsUnheld slab
     → SlabsFit (set rooms room None) (left_out classes slab.class room) marks (without slab.index slabs)
 leave_fit rooms classes marks slabs room slab fit placed is unheld = record {
   rooms_long = length-set rooms room None ∙ fit.rooms_long;
-  classes_long = length-set classes.lists slab.class (dropped room (members classes slab.class)) ∙ fit.classes_long;
+  classes_long = length-set classes.lists slab.class (list_without room (members classes slab.class)) ∙ fit.classes_long;
   places = fit.places;
   marks_long = fit.marks_long;
   listed = λ k below. listed k below (cases_eq k slab.class);
@@ -360,8 +361,8 @@ leave_fit rooms classes marks slabs room slab fit placed is unheld = record {
     same_test other within = go (cases_eq other.index slab.index)
       where
         go : (other.index ≡ slab.index) ⊎ (other.index ≡ slab.index → ⊥) → (other.index / 2 == room) ≡ (other.index == slab.index)
-        go (inl same) = eq_true (other.index / 2) room (let e = is.at_room in omega (arith, same, e)) ∙ sym (eq_true other.index slab.index same)
-        go (inr differ) = eq_false (other.index / 2) room (λ half. differ (let e = is.at_room in let even = placed.even other within in omega (arith, half, e, even))) ∙ sym (eq_false other.index slab.index differ)
+        go (inl same) = eq-eqb (other.index / 2) room (let e = is.at_room in omega (arith, same, e)) ∙ sym (eq-eqb other.index slab.index same)
+        go (inr differ) = ne_eqb (other.index / 2) room (λ half. differ (let e = is.at_room in let even = placed.even other within in omega (arith, half, e, even))) ∙ sym (ne_eqb other.index slab.index differ)
 
     swapped : (a b c : Bool) → b ≡ c → (a && not b) ≡ (not c && a)
     swapped true true true e = refl
@@ -384,26 +385,26 @@ leave_fit rooms classes marks slabs room slab fit placed is unheld = record {
         other_false false false e = refl
 
         go : (other.index ≡ slab.index) ⊎ (other.index ≡ slab.index → ⊥) → (not (other.index == slab.index) && (other.class == k)) ≡ (other.class == k)
-        go (inl same) = other_false (other.index == slab.index) (other.class == k) (eq_false other.class k (λ e. differ (sym e ∙ ap (λ (s : OwnSlab). s.class) (placed.one other slab within is.member same))))
-        go (inr apart) = one_false (other.index == slab.index) (other.class == k) (eq_false other.index slab.index apart)
+        go (inl same) = other_false (other.index == slab.index) (other.class == k) (ne_eqb other.class k (λ e. differ (sym e ∙ ap (λ (s : OwnSlab). s.class) (placed.one other slab within is.member same))))
+        go (inr apart) = one_false (other.index == slab.index) (other.class == k) (ne_eqb other.index slab.index apart)
 
     listed : (k : ℕ) → k < 26 → (k ≡ slab.class) ⊎ (k ≡ slab.class → ⊥) → members (left_out classes slab.class room) k ≡ rooms_of k (without slab.index slabs)
     listed k below (inl same) = subst (λ n. members (left_out classes slab.class room) n ≡ rooms_of n (without slab.index slabs)) (sym same)
-        (get_or-set_same classes.lists slab.class (dropped room (members classes slab.class)) [] (omega (arith, in_list, fit.classes_long))
-        ∙ ap (dropped room) (fit.listed slab.class in_list)
+        (get_or-set_same classes.lists slab.class (list_without room (members classes slab.class)) [] (omega (arith, in_list, fit.classes_long))
+        ∙ ap (list_without room) (fit.listed slab.class in_list)
         ∙ filter-map (λ (s : OwnSlab). s.index / 2) (λ other. not (other == room)) (filter (λ s. s.class == slab.class) slabs)
         ∙ ap (map (λ (s : OwnSlab). s.index / 2)) (filter-twice (λ s. not (s.index / 2 == room)) (λ s. s.class == slab.class) slabs
         ∙ filter-same (λ s. (s.class == slab.class) && not (s.index / 2 == room)) (λ s. not (s.index == slab.index) && (s.class == slab.class)) slabs (λ other within. swapped (other.class == slab.class) (other.index / 2 == room) (other.index == slab.index) (same_test other within))
         ∙ sym (filter-twice (λ s. s.class == slab.class) (λ s. not (s.index == slab.index)) slabs)))
-    listed k below (inr differ) = get_or-set_other classes.lists slab.class k (dropped room (members classes slab.class)) [] differ ∙ fit.listed k below
+    listed k below (inr differ) = get_or-set_other classes.lists slab.class k (list_without room (members classes slab.class)) [] differ ∙ fit.listed k below
         ∙ ap (map (λ (s : OwnSlab). s.index / 2)) (sym (filter-twice (λ s. s.class == k) (λ s. not (s.index == slab.index)) slabs
         ∙ filter-same (λ s. not (s.index == slab.index) && (s.class == k)) (λ s. s.class == k) slabs (kept_test k differ)))
 
     gone : slab_in room (without slab.index slabs) ≡ None
-    gone = find-gone (λ s. s.index == 2 * room) (λ s. not (s.index == slab.index)) slabs (λ other within passes. ap not (eq_true other.index slab.index (true_eq other.index (2 * room) passes ∙ sym is.at_room)))
+    gone = find-gone (λ s. s.index == 2 * room) (λ s. not (s.index == slab.index)) slabs (λ other within passes. ap not (eq-eqb other.index slab.index (eqb-true other.index (2 * room) passes ∙ sym is.at_room)))
 
     left : (other : ℕ) → (other ≡ room → ⊥) → slab_in other (without slab.index slabs) ≡ slab_in other slabs
-    left other differ = find-left (λ s. s.index == 2 * other) (λ s. not (s.index == slab.index)) slabs (λ one within passes. ap not (eq_false one.index slab.index (λ e. differ (let f = true_eq one.index (2 * other) passes in let g = is.at_room in omega (arith, e, f, g)))))
+    left other differ = find-left (λ s. s.index == 2 * other) (λ s. not (s.index == slab.index)) slabs (λ one within passes. ap not (ne_eqb one.index slab.index (λ e. differ (let f = eqb-true one.index (2 * other) passes in let g = is.at_room in omega (arith, e, f, g)))))
 
     recorded : (other : ℕ) → (other ≡ room) ⊎ (other ≡ room → ⊥) → slice_index_or (set rooms room None) other None ≡ record_in (slab_in other (without slab.index slabs))
     recorded other (inl same) = ap (λ r. slice_index_or (set rooms room None) r None) same ∙ get_or-set_same rooms room None None (omega (arith, inside, fit.rooms_long))
@@ -557,7 +558,7 @@ searched slabs class place room placed is =
     record {
       slab = slab;
       is = record { member = at.0; at_room = omega (arith, half, even) };
-      class_is = true_eq slab.class class at.1;
+      class_is = eqb-true slab.class class at.1;
       behind = let next : suc place ≡ place + 1 = omega arith in rest ∙ ap (λ n. slab ∷ drop n (filter (λ (s : OwnSlab). s.class == class) slabs)) next;
     }
 

@@ -2,22 +2,22 @@
 use Rattle.std.proofs.Common.{◌≡◌, ℕ, ◌+◌, ◌-◌, ◌*◌, ◌/◌, ◌%◌, ◌<◌, ◌≤◌, Bool, true, false, cond, ◌&&◌, ◌==◌, nat_lt, ◌⊎◌, inl, inr, List, [], ◌∷◌, map, length, set, Some, None, refl, sym, ap, ◌∙◌, subst, arith, length-set, slice_get}
 use Rattle.std.specs.Prelude.{Contains, filter, find, slice_index_or, if◌then◌else◌}
 use Rattle.std.specs.declared.option.Option.{Option}
-use Rattle.std.proofs.lemmas.Bool.Decides.{nat_tests}
-use Rattle.std.proofs.lemmas.Bool.{cases_eq, cases_lt, true≢false, and_parts}
+use Rattle.std.proofs.lemmas.Bool.{cases_eq, cases_lt, true≢false, and_parts, eq-eqb, ne_eqb, eqb-true, lt-ltb}
 use Rattle.std.proofs.lemmas.List.{get_or-set_same, get_or-set_other}
 use Rattle.std.proofs.Math.Nat.{mul-mod_left}
 use Rattle.std.proofs.lemmas.Nat.{div-mul-add}
 use Rattle.size_classes.specs.Classes.{class_size, class_objects}
-use Rattle.size_classes.proofs.Sizes.{class_size-least, class_size-past}
+use Rattle.size_classes.proofs.CallerLemmas.{class_size-least, class_size-past, objects-room, object_offset-eights}
 use Rattle.slab_core.specs.declared.SlabRec.{SlabRec}
-use Rattle.slab_core.specs.Layout.{object_offset}
-use Rattle.slab_core.proofs.Places.{objects-room, object_offset-eights}
+use Rattle.size_classes.specs.Layout.{object_offset}
 use Rattle.index_lists.specs.Lists.{Lists}
 use Rattle.plain_lists.specs.Lists.{OwnSlab, changed}
 use Rattle.plain_lists.specs.Whole.{object_of, spot_held, spot_of, spot_in}
 use Rattle.plain_lists.specs.Good.{times}
-use Rattle.plain_lists.proofs.Gets.{slice_get-inside, times-same, times-other}
-use Rattle.plain_lists.proofs.Members.{Contains-first, Contains-other, find-Some, find-None}
+use Rattle.plain_lists.proofs.Gets.{times-same, times-other}
+use Rattle.std.proofs.lemmas.Option.{slice_get_within}
+use Rattle.list_laws.proofs.Members.{Contains-first, Contains-other}
+use Rattle.list_laws.proofs.Finds.{find-Some, find-None}
 use Rattle.plain_lists.proofs.ObjectPlaces.{object_of-Some, divides-times}
 use Rattle.plain_lists.proofs.Rooms.{Some-same}
 use Rattle.plain_lists.proofs.SlabLists.{Contains-changed}
@@ -25,21 +25,20 @@ use Rattle.plain_pool.specs.declared.marks.Mark.{Mark}
 use Rattle.plain_pool.specs.declared.marks.Mark.TheVariants.{Blank}
 use Rattle.plain_pool.specs.Marks.{number_in, link_in}
 use Rattle.plain_pool.specs.Slabs.{record_of, record_in, slab_in, rooms_of, unit_at, mark_at, number_of, AreNumbers, AreLinks, SlabsFit, ArePlaced, IsKept, AreKept, IsIn}
-use Rattle.plain_pool.proofs.BinLemmas.{eq_true, eq_false, true_eq}
 
 -- the slab in a room is found there
 pub slab_found : (slabs : List OwnSlab) → ArePlaced slabs → (room : ℕ) (slab : OwnSlab) → IsIn room slab slabs → slab_in room slabs ≡ Some slab
 slab_found slabs placed room slab is = go (find (λ other. other.index == 2 * room) slabs) refl
   where
     go : (o : Option OwnSlab) → find (λ other. other.index == 2 * room) slabs ≡ o → slab_in room slabs ≡ Some slab
-    go None e = absurd (true≢false (sym (eq_true slab.index (2 * room) is.at_room) ∙ find-None (λ other. other.index == 2 * room) slabs e slab is.member))
+    go None e = absurd (true≢false (sym (eq-eqb slab.index (2 * room) is.at_room) ∙ find-None (λ other. other.index == 2 * room) slabs e slab is.member))
     go (Some other) e = let at = find-Some (λ other. other.index == 2 * room) slabs other e in
-        e ∙ ap Some (placed.one other slab at.0 is.member (true_eq other.index (2 * room) at.1 ∙ sym is.at_room))
+        e ∙ ap Some (placed.one other slab at.0 is.member (eqb-true other.index (2 * room) at.1 ∙ sym is.at_room))
 
 -- and what is found there is in it
 pub found_in : (slabs : List OwnSlab) (room : ℕ) (slab : OwnSlab) → slab_in room slabs ≡ Some slab → IsIn room slab slabs
 found_in slabs room slab e = let at = find-Some (λ other. other.index == 2 * room) slabs slab e in
-    record { member = at.0; at_room = true_eq slab.index (2 * room) at.1 }
+    record { member = at.0; at_room = eqb-true slab.index (2 * room) at.1 }
 
 -- a slab lies in a room
 pub in_room : (slabs : List OwnSlab) → ArePlaced slabs → (slab : OwnSlab) → Contains slabs slab → IsIn (slab.index / 2) slab slabs × (slab.index / 2 < 64)
@@ -56,7 +55,7 @@ size_some class object below = elim (cases_lt class 26) [
 
 -- where an object of a slab begins tells it
 pub object_of-offset : (class object : ℕ) → object < class_objects class → object_of class (object_offset class object) ≡ Some object
-unfolding object_of object_offset
+unfolding object_of
 object_of-offset class object below =
     let room = objects-room class object below in
     let least = size_some class object below in
@@ -71,17 +70,13 @@ object_of-offset class object below =
     times_over : (n size : ℕ) → 0 < size → n * size / size ≡ n
     times_over n size some = let none : n * size + 0 ≡ n * size = omega arith in ap (λ m. m / size) (sym none) ∙ div-mul-add n size 0 some
 
-    lt_true : (a b : ℕ) → a < b → nat_lt a b ≡ true
-    lt_true a b below = grind (arith, nat_tests)
-
     go : (within : ℕ) → 16384 - within ≡ (object + 1) * class_size class → within < 16384 → 0 < class_size class →
         (if ((16384 - within) % class_size class == 0) && nat_lt within 16384 then Some ((16384 - within) / class_size class - 1) else None) ≡ Some object
     go within bytes inside some =
-        rw bytes (rw (mul-mod_left (object + 1) (class_size class), times_over (object + 1) (class_size class) some, lt_true within 16384 inside) (ap Some (omega arith)))
+        rw bytes (rw (mul-mod_left (object + 1) (class_size class), times_over (object + 1) (class_size class) some, lt-ltb within 16384 inside) (ap Some (omega arith)))
 
 -- an object begins in its slab
 pub offset_below : (class object : ℕ) → object < class_objects class → object_offset class object < 16384
-unfolding object_offset
 offset_below class object below =
     let room = objects-room class object below in
     let least = size_some class object below in
@@ -126,7 +121,7 @@ object_at_is class within object found = go (((16384 - within) % class_size clas
         (if b then Some ((16384 - within) / class_size class - 1) else None) ≡ Some object → within < 16384 → ObjectAt class within object
     go true is found below =
         let both = and_parts ((16384 - within) % class_size class == 0) (nat_lt within 16384) is in
-        let times = divides-times (16384 - within) (class_size class) (true_eq ((16384 - within) % class_size class) 0 both.0) in
+        let times = divides-times (16384 - within) (class_size class) (eqb-true ((16384 - within) % class_size class) 0 both.0) in
         record { below = omega (arith, below); some = count (16384 - within) (class_size class) times (omega (arith, below)); answer = Some-same ((16384 - within) / class_size class - 1) object found }
     go false is found below = absurd (let no = found in cc)
 
@@ -137,12 +132,12 @@ changed_here (one ∷ slabs) room slab new found at_room = go (cases_eq one.inde
   where
     go : (one.index ≡ 2 * room) ⊎ (one.index ≡ 2 * room → ⊥) → (slab_in room slabs ≡ Some slab → slab_in room (changed new slabs) ≡ Some new) → slab_in room (changed new (one ∷ slabs)) ≡ Some new
     go (inl same) step =
-        ap (λ (b : Bool). cond ((if b then new else one).index == 2 * room) (Some (if b then new else one)) (slab_in room (changed new slabs))) (eq_true one.index new.index (same ∙ sym at_room))
-        ∙ ap (λ b. cond b (Some new) (slab_in room (changed new slabs))) (eq_true new.index (2 * room) at_room)
+        ap (λ (b : Bool). cond ((if b then new else one).index == 2 * room) (Some (if b then new else one)) (slab_in room (changed new slabs))) (eq-eqb one.index new.index (same ∙ sym at_room))
+        ∙ ap (λ b. cond b (Some new) (slab_in room (changed new slabs))) (eq-eqb new.index (2 * room) at_room)
     go (inr differ) step =
-        ap (λ (b : Bool). cond ((if b then new else one).index == 2 * room) (Some (if b then new else one)) (slab_in room (changed new slabs))) (eq_false one.index new.index (λ e. differ (e ∙ at_room)))
-        ∙ ap (λ b. cond b (Some one) (slab_in room (changed new slabs))) (eq_false one.index (2 * room) differ)
-        ∙ step (sym (ap (λ b. cond b (Some one) (slab_in room slabs)) (eq_false one.index (2 * room) differ)) ∙ found)
+        ap (λ (b : Bool). cond ((if b then new else one).index == 2 * room) (Some (if b then new else one)) (slab_in room (changed new slabs))) (ne_eqb one.index new.index (λ e. differ (e ∙ at_room)))
+        ∙ ap (λ b. cond b (Some one) (slab_in room (changed new slabs))) (ne_eqb one.index (2 * room) differ)
+        ∙ step (sym (ap (λ b. cond b (Some one) (slab_in room slabs)) (ne_eqb one.index (2 * room) differ)) ∙ found)
 
 pub changed_there : (slabs : List OwnSlab) (room other : ℕ) (new : OwnSlab) → new.index ≡ 2 * room → (other ≡ room → ⊥) → slab_in other (changed new slabs) ≡ slab_in other slabs
 changed_there [] room other new at_room differ = refl
@@ -150,11 +145,11 @@ changed_there (one ∷ slabs) room other new at_room differ = go (cases_eq one.i
   where
     go : (one.index ≡ new.index) ⊎ (one.index ≡ new.index → ⊥) → slab_in other (changed new slabs) ≡ slab_in other slabs → slab_in other (changed new (one ∷ slabs)) ≡ slab_in other (one ∷ slabs)
     go (inl same) rest =
-        ap (λ (b : Bool). cond ((if b then new else one).index == 2 * other) (Some (if b then new else one)) (slab_in other (changed new slabs))) (eq_true one.index new.index same)
-        ∙ ap (λ b. cond b (Some new) (slab_in other (changed new slabs))) (eq_false new.index (2 * other) (λ e. differ (omega (arith, e, at_room))))
-        ∙ rest ∙ sym (ap (λ b. cond b (Some one) (slab_in other slabs)) (eq_false one.index (2 * other) (λ e. differ (omega (arith, e, same, at_room)))))
+        ap (λ (b : Bool). cond ((if b then new else one).index == 2 * other) (Some (if b then new else one)) (slab_in other (changed new slabs))) (eq-eqb one.index new.index same)
+        ∙ ap (λ b. cond b (Some new) (slab_in other (changed new slabs))) (ne_eqb new.index (2 * other) (λ e. differ (omega (arith, e, at_room))))
+        ∙ rest ∙ sym (ap (λ b. cond b (Some one) (slab_in other slabs)) (ne_eqb one.index (2 * other) (λ e. differ (omega (arith, e, same, at_room)))))
     go (inr apart) rest =
-        ap (λ (b : Bool). cond ((if b then new else one).index == 2 * other) (Some (if b then new else one)) (slab_in other (changed new slabs))) (eq_false one.index new.index apart)
+        ap (λ (b : Bool). cond ((if b then new else one).index == 2 * other) (Some (if b then new else one)) (slab_in other (changed new slabs))) (ne_eqb one.index new.index apart)
         ∙ ap (λ o. cond (one.index == 2 * other) (Some one) o) rest
 
 -- and its class lists stay
@@ -178,10 +173,10 @@ rooms_of-changed class slabs slab new placed member index_is class_is = rooms_of
     go : (other : OwnSlab) → Contains slabs other → (other.index ≡ new.index) ⊎ (other.index ≡ new.index → ⊥) → ((if other.index == new.index then new else other).class ≡ other.class) × ((if other.index == new.index then new else other).index ≡ other.index)
     go other inside (inl same) =
         let this : other ≡ slab = placed.one other slab inside member (same ∙ index_is) in (
-          ap (λ (b : Bool). (if b then new else other).class) (eq_true other.index new.index same) ∙ class_is ∙ ap (λ (s : OwnSlab). s.class) (sym this),
-          ap (λ (b : Bool). (if b then new else other).index) (eq_true other.index new.index same) ∙ index_is ∙ ap (λ (s : OwnSlab). s.index) (sym this),
+          ap (λ (b : Bool). (if b then new else other).class) (eq-eqb other.index new.index same) ∙ class_is ∙ ap (λ (s : OwnSlab). s.class) (sym this),
+          ap (λ (b : Bool). (if b then new else other).index) (eq-eqb other.index new.index same) ∙ index_is ∙ ap (λ (s : OwnSlab). s.index) (sym this),
         )
-    go other inside (inr apart) = (ap (λ (b : Bool). (if b then new else other).class) (eq_false other.index new.index apart), ap (λ (b : Bool). (if b then new else other).index) (eq_false other.index new.index apart))
+    go other inside (inr apart) = (ap (λ (b : Bool). (if b then new else other).class) (ne_eqb other.index new.index apart), ap (λ (b : Bool). (if b then new else other).index) (ne_eqb other.index new.index apart))
 
 -- a slab changed at one of its objects
 pub record IsChange (slab new : OwnSlab) (object : ℕ) (held : Option ℕ) : Type 0 where
@@ -263,7 +258,7 @@ links_set marks index class (object ∷ private) unit mark apart links = (
 
 -- a private object is one of the class
 pub private_below : (slab : OwnSlab) → IsKept slab → (object : ℕ) → 0 < times object slab.private → object < class_objects slab.class
-private_below slab kept object some = let below = slice_get-inside slab.objects object None (kept.came_back object some) in let few = kept.few in omega (arith, below, few)
+private_below slab kept object some = let below = slice_get_within slab.objects object None (kept.came_back object some) in let few = kept.few in omega (arith, below, few)
 
 -- one object changed in a slab, and its mark
 pub fit_changed : (rooms : List (Option SlabRec)) (classes : Lists) (marks : List Mark) (slabs : List OwnSlab) (room : ℕ) (slab new : OwnSlab) (object : ℕ) (held : Option ℕ) (mark : Mark) → SlabsFit rooms classes marks slabs → AreKept slabs → IsIn room slab slabs

@@ -4,14 +4,14 @@ use Rattle.std.proofs.Common.{◌≡◌, ◌≢◌, ℕ, ◌+◌, ◌-◌, ◌/�
 use Rattle.std.specs.Prelude.{Contains, if◌then◌else◌, slice_index_or}
 use Rattle.std.specs.declared.option.Option.{Option}
 use Rattle.std.proofs.lemmas.Bool.Decides.{nat_tests}
-use Rattle.std.proofs.lemmas.Bool.{cases_eq, cases_lt}
+use Rattle.std.proofs.lemmas.Bool.{cases_eq, cases_lt, eq-eqb, ne_eqb, leb-true}
 use Rattle.pool_types.specs.declared.values.Place.{Place}
 use Rattle.plain_lists.specs.Lists.{OwnSlab, Block, Lists, taken_back, is_unused, changed, without}
 use Rattle.plain_lists.specs.Backend.{after_put, after_puts, slab_block}
 use Rattle.plain_lists.specs.Whole.{Spot, spot_at, frees, shelved, trimmed}
 use Rattle.plain_lists.specs.Good.{AreGood, IsHeld}
-use Rattle.plain_lists.proofs.Members.{Contains-first, Contains-other}
-use Rattle.plain_lists.proofs.Counting.{one_if, count-cons, count-some}
+use Rattle.list_laws.proofs.Members.{Contains-first, Contains-other}
+use Rattle.list_laws.proofs.Counts.{one_if, count-cons, count-some}
 use Rattle.plain_lists.proofs.Granules.{lies_on-true}
 use Rattle.plain_lists.proofs.Beside.{AreGoodBeside, beside_none, at_most_once}
 use Rattle.plain_lists.proofs.Blocks.{AreBlocks as AreGoodBlocks, has}
@@ -27,7 +27,6 @@ use Rattle.plain_pool.specs.declared.slabs.Held.{Held}
 use Rattle.plain_pool.specs.Bins.{AreBins, IsClear}
 use Rattle.plain_pool.specs.Slabs.{AreSlabs, ArePlaced, IsKept, IsIn, IsUnheld, held_of}
 use Rattle.plain_pool.specs.Pool.{Has, AreStored}
-use Rattle.plain_pool.proofs.BinLemmas.{eq_true, eq_false}
 use Rattle.plain_pool.proofs.SlabCalls.{nones-all}
 
 -- the oldest slab is clear of the blocks
@@ -156,10 +155,7 @@ freeing lists place spot held good found same =
 -- no object is held where as many are private as were handed out
 pub unheld_back : (slab : OwnSlab) (object number : ℕ) → IsKept slab → IsHeld slab object number → is_unused (taken_back slab object) ≡ true → IsUnheld (taken_back slab object)
 unheld_back slab object number kept held unused other other_number is =
-    nones-all (taken_back slab object).objects other other_number (let few = true_le (length (taken_back slab object).objects) (suc (length slab.private)) unused in let all = nones-set_none slab.objects object number held in let counted = kept.counted in omega (arith, few, all, counted)) is
-  where
-    true_le : (a b : ℕ) → nat_le a b ≡ true → a ≤ b
-    true_le a b is = grind (arith, nat_tests)
+    nones-all (taken_back slab object).objects other other_number (let few = leb-true (length (taken_back slab object).objects) (suc (length slab.private)) unused in let all = nones-set_none slab.objects object number held in let counted = kept.counted in omega (arith, few, all, counted)) is
 
 -- the places of the slabs stay where one changes
 pub placed_changed : (slabs : List OwnSlab) (room : ℕ) (slab new : OwnSlab) → ArePlaced slabs → IsIn room slab slabs → new.index ≡ slab.index → new.class ≡ slab.class → ArePlaced (changed new slabs)
@@ -183,11 +179,11 @@ without_changed new (one ∷ slabs) = go (cases_eq one.index new.index) (without
   where
     go : (one.index ≡ new.index) ⊎ (one.index ≡ new.index → ⊥) → without new.index (changed new slabs) ≡ without new.index slabs → without new.index (changed new (one ∷ slabs)) ≡ without new.index (one ∷ slabs)
     go (inl same) rest =
-        ap (λ (b : Bool). cond (not ((if b then new else one).index == new.index)) ((if b then new else one) ∷ without new.index (changed new slabs)) (without new.index (changed new slabs))) (eq_true one.index new.index same)
-        ∙ ap (λ b. cond (not b) (new ∷ without new.index (changed new slabs)) (without new.index (changed new slabs))) (eq_true new.index new.index refl)
-        ∙ rest ∙ sym (ap (λ b. cond (not b) (one ∷ without new.index slabs) (without new.index slabs)) (eq_true one.index new.index same))
+        ap (λ (b : Bool). cond (not ((if b then new else one).index == new.index)) ((if b then new else one) ∷ without new.index (changed new slabs)) (without new.index (changed new slabs))) (eq-eqb one.index new.index same)
+        ∙ ap (λ b. cond (not b) (new ∷ without new.index (changed new slabs)) (without new.index (changed new slabs))) (eq-eqb new.index new.index refl)
+        ∙ rest ∙ sym (ap (λ b. cond (not b) (one ∷ without new.index slabs) (without new.index slabs)) (eq-eqb one.index new.index same))
     go (inr differ) rest =
-        ap (λ (b : Bool). cond (not ((if b then new else one).index == new.index)) ((if b then new else one) ∷ without new.index (changed new slabs)) (without new.index (changed new slabs))) (eq_false one.index new.index differ)
+        ap (λ (b : Bool). cond (not ((if b then new else one).index == new.index)) ((if b then new else one) ∷ without new.index (changed new slabs)) (without new.index (changed new slabs))) (ne_eqb one.index new.index differ)
         ∙ ap (λ xs. cond (not (one.index == new.index)) (one ∷ xs) xs) rest
 
 -- the slab cache with the slab that left is apart from the blocks

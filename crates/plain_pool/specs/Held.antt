@@ -2,7 +2,7 @@
 use Rattle.std.specs.Prelude.{ℕ, ◌-◌, ◌*◌, ◌≤◌, List, Some, None}
 use Rattle.std.specs.declared.option.Option.{Option}
 use Rattle.size_classes.specs.Classes.{class_size, class_objects}
-use Rattle.slab_core.specs.Layout.{head_bytes}
+use Rattle.size_classes.specs.Layout.{head_bytes}
 use Rattle.slab_core.specs.declared.SlabRec.{SlabRec}
 use Rattle.plain_lists.specs.Lists.{OwnSlab, Block}
 use Rattle.plain_lists.specs.Good.{slabs_on, blocks_on}

@@ -3,7 +3,7 @@ use Rattle.std.specs.Prelude.{◌≡◌, ℕ, ◌+◌, ◌-◌, ◌*◌, ◌/◌
 use Rattle.std.specs.declared.option.Option.{Option}
 use Rattle.size_classes.specs.Classes.{class_objects}
 use Rattle.slab_core.specs.declared.SlabRec.{SlabRec}
-use Rattle.slab_core.specs.Layout.{object_offset}
+use Rattle.size_classes.specs.Layout.{object_offset}
 use Rattle.index_lists.specs.Lists.{Lists, members}
 use Rattle.plain_lists.specs.Lists.{OwnSlab}
 use Rattle.plain_lists.specs.Whole.{Spot, spot_in}

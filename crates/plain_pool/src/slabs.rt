@@ -2,14 +2,14 @@
 ghost use Rattle.std.specs.Prelude.{◌≡◌, ◌+◌, ◌*◌, ◌/◌, ◌^◌, ◌<◌, ◌≤◌, ◌||◌, ℕ, nat_lt, is_some, length, replicate, sum_by, Some, None, IfOk};
 ghost use Rattle.size_classes.specs.Classes.{class_size, class_objects};
 ghost use Rattle.plain_pool.specs.Held.{room_head, room_rest, room_private, room_object};
-ghost use Rattle.slab_core.specs.Layout.{object_offset};
+ghost use Rattle.size_classes.specs.Layout.{object_offset};
 ghost use Rattle.plain_lists.specs.Whole.{object_of, place_at, grant_of};
 
 use crate::marks::Mark;
 use index_lists::IndexLists;
 use pool_types::{Grant, Leak, Place};
-use size_classes::{CLASSES, Class};
-use slab_core::{SlabRec, object_offset};
+use size_classes::{CLASSES, Class, object_offset};
+use slab_core::SlabRec;
 use std::alloc::{AllocError, Global};
 
 /// How many slabs the region has room for.
@@ -79,7 +79,7 @@ fn has_free(slab: &SlabRec) -> bool
 }
 
 /// The bytes of a room's slab that are its head.
-#[tactic(auto, using(crate::proofs::SumLemmas::head_fits), unfolding(slab_core::specs::Layout::head_bytes))]
+#[tactic(auto, using(crate::proofs::SumLemmas::head_fits))]
 fn head_bytes(room: &Option<SlabRec>) -> u64
     ensures exact { result ≡ room_head room.now }
     ensures most { result ≤ 2 ^ 45 }

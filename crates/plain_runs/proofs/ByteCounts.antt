@@ -8,11 +8,11 @@ use Rattle.std.proofs.lemmas.List.Sums.{sum_by-cons}
 use Rattle.pool_types.specs.declared.values.Grant.{Grant}
 use Rattle.part_model.specs.declared.holders.Holder.{Holder}
 use Rattle.part_model.specs.declared.holders.Holder.TheVariants.{Head, Rest, Private, Object, SlabCache, Bin}
-use Rattle.part_model.specs.Totals.{sum_below, sum_regions, region_bytes, place_at}
-use Rattle.part_model.proofs.Sums.{sum_below-same, sum_below-add, sum_below-none, sum_regions-same, sum_regions-one}
+use Rattle.part_model.specs.Totals.{sum_regions, region_bytes, place_at}
+use Rattle.part_model.proofs.CallerLemmas.{sum_regions-same, sum_regions-one}
 use Rattle.size_classes.specs.Classes.{class_size, class_objects}
+use Rattle.size_classes.specs.Layout.{head_bytes}
 use Rattle.machine.specs.States.{State}
-use Rattle.machine.specs.Ranges.{head_bytes}
 use Rattle.plain_lists.specs.Lists.{OwnSlab, Block, Lists, lies_on}
 use Rattle.plain_lists.specs.Whole.{grant_of}
 use Rattle.plain_lists.specs.Good.{IsGoodSlab, nones, slabs_on, stored_on, blocks_on}
@@ -23,7 +23,8 @@ use Rattle.plain_runs.proofs.Layouts.{Use, Away, InBin, InCache, OfSlab, held_as
 use Rattle.plain_runs.proofs.Moves.{in_granules, plain_no_slab}
 use Rattle.plain_runs.proofs.ObjectSteps.{held_by-in, held_by-out}
 use Rattle.plain_runs.proofs.LaidOut.{Holds, UseOf, none_has, slab_has, stored_has, block_has, use_of}
-use Rattle.plain_runs.proofs.SumLemmas.{sum_by-same, sum_by-none, sum_by-only, sum_swap, sum_none, sum_more, sum_const, sum_split, sum_span, sum_gets}
+use Rattle.list_laws.specs.Sums.{sum_below}
+use Rattle.list_laws.proofs.Sums.{sum_below-same, sum_below-add, sum_below-none, sum_by-same, sum_by-none, sum_by-only, sum_below-sum_by, sum_below-zero, sum_below-suc, sum_below-const, sum_below-split, sum_below-shifted, sum_below-gets}
 
 -- one where the holder passes the test
 abbrev pub counted : (Option Holder → Bool) → Option Holder → ℕ
@@ -40,9 +41,9 @@ slab_part : (test : Option Holder → Bool) (slab : OwnSlab) (m : ℕ) → slab.
     ≡ sum_below (λ w. counted test (slab_holder slab w)) start + class_size slab.class * object_count test (slice_get slab.objects m)
 slab_part test slab m exists below start ends is =
     ap (sum_below (λ w. counted test (slab_holder slab w))) (sym ends)
-    ∙ sum_split (λ w. counted test (slab_holder slab w)) start (class_size slab.class)
+    ∙ sum_below-split (λ w. counted test (slab_holder slab w)) start (class_size slab.class)
     ∙ ap (λ n. sum_below (λ w. counted test (slab_holder slab w)) start + n)
-    (sum_const (λ j. counted test (slab_holder slab (start + j))) (class_size slab.class) (object_count test (slice_get slab.objects m)) (λ j below_size. at j below_size (inside start (16384 - (m + 1) * class_size slab.class) j (class_size slab.class) is below_size)))
+    (sum_below-const (λ j. counted test (slab_holder slab (start + j))) (class_size slab.class) (object_count test (slice_get slab.objects m)) (λ j below_size. at j below_size (inside start (16384 - (m + 1) * class_size slab.class) j (class_size slab.class) is below_size)))
   where
     inside : (start at j size : ℕ) → at ≡ start → j < size → (at ≤ start + j) × (start + j < at + size)
     inside start at j size is below = (omega arith, omega arith)
@@ -63,7 +64,7 @@ slab_start slab m below =
 pub slab_top : (test : Option Holder → Bool) (slab : OwnSlab) (m : ℕ) → slab.class < 26 → m ≤ class_objects slab.class →
     sum_below (λ w. counted test (slab_holder slab w)) 16384
     ≡ sum_below (λ w. counted test (slab_holder slab w)) (16384 - m * class_size slab.class) + sum_below (λ k. object_count test (slice_get slab.objects k)) m * class_size slab.class
-slab_top test slab zero exists most = start (zero-mul (class_size slab.class)) (sum_none (λ k. object_count test (slice_get slab.objects k)))
+slab_top test slab zero exists most = start (zero-mul (class_size slab.class)) (sum_below-zero (λ k. object_count test (slice_get slab.objects k)))
   where
     start : 0 * class_size slab.class ≡ 0 → sum_below (λ k. object_count test (slice_get slab.objects k)) 0 ≡ 0 →
         sum_below (λ w. counted test (slab_holder slab w)) 16384
@@ -79,7 +80,7 @@ slab_top test slab (suc m) exists most =
     let starts = slab_start slab m (omega arith) in
     join (sum_below (λ w. counted test (slab_holder slab w)) (16384 - suc m * class_size slab.class)) (sum_below (λ k. object_count test (slice_get slab.objects k)) m * class_size slab.class)
     (class_size slab.class * object_count test (slice_get slab.objects m)) (slab_top test slab m exists (omega arith)) (slab_part test slab m exists (omega arith) (16384 - suc m * class_size slab.class) starts.0 starts.1)
-    (ap (λ n. n * class_size slab.class) (sum_more (λ k. object_count test (slice_get slab.objects k)) m))
+    (ap (λ n. n * class_size slab.class) (sum_below-suc (λ k. object_count test (slice_get slab.objects k)) m))
     (products (sum_below (λ k. object_count test (slice_get slab.objects k)) m) (object_count test (slice_get slab.objects m)) (class_size slab.class))
   where
     join : {total s0 v w : ℕ} (s2 pz zc : ℕ) → total ≡ s0 + pz → s0 ≡ s2 + zc → v ≡ w → w ≡ pz + zc → total ≡ s2 + v
@@ -95,8 +96,8 @@ pub slab_count : (test : Option Holder → Bool) (slab : OwnSlab) → IsGoodSlab
     + ((class_objects slab.class - length slab.objects) * counted test (Some Rest) + sum_by (λ held. object_count test (Some held)) slab.objects) * class_size slab.class
 slab_count test slab good =
     let top = slab_top test slab (class_objects slab.class) good.class_is (omega arith) in
-    let head = sum_const (λ w. counted test (slab_holder slab w)) (head_bytes slab.class) (counted test (Some Head)) (λ w below. ap (counted test) (slab_holder-head slab w below)) in
-    let gets = sum_gets (object_count test) slab.objects (class_objects slab.class) good.few in
+    let head = sum_below-const (λ w. counted test (slab_holder slab w)) (head_bytes slab.class) (counted test (Some Head)) (λ w below. ap (counted test) (slab_holder-head slab w below)) in
+    let gets = sum_below-gets (object_count test) slab.objects (class_objects slab.class) good.few in
     let bytes = ap (λ n. n * class_size slab.class) gets in
     omega (arith, top, head, bytes)
 
@@ -237,7 +238,7 @@ pub granules_sum : (f : ℕ → ℕ) (first granules : ℕ) → first + granules
 granules_sum f first granules inside =
     sum_below-same (λ o. if lies_on first granules (o / 8192) then f (o - 8192 * first) else 0) (λ o. if nat_le (8192 * first) o && nat_lt o (8192 * first + 8192 * granules) then f (o - 8192 * first) else 0) (2 ^ 64)
     (λ o below. ap (λ (b : Bool). if b then f (o - 8192 * first) else 0) (sym (in_granules first granules o)))
-    ∙ sum_span f (8192 * first) (8192 * granules) (2 ^ 64) (omega arith)
+    ∙ sum_below-shifted f (8192 * first) (8192 * granules) (2 ^ 64) (omega arith)
 
 -- what the lists weigh
 abbrev pub lists_weight : ℕ → ℕ → ℕ → ℕ → ℕ → ℕ → Lists → ℕ
@@ -262,7 +263,7 @@ region_weighs test none same state lists holds =
 
     slabs : sum_below (λ o. sum_by (slab_share test o) lists.slabs) (2 ^ 64) ≡ sum_by (slab_weight (counted test (Some Head)) (counted test (Some Rest)) (counted test (Some Private)) (counted test (Some (Object (grant_of 0))))) lists.slabs
     slabs =
-        sum_swap (λ slab o. slab_share test o slab) lists.slabs (2 ^ 64)
+        sum_below-sum_by (λ slab o. slab_share test o slab) lists.slabs (2 ^ 64)
         ∙ sum_by-same (λ slab. sum_below (λ o. slab_share test o slab) (2 ^ 64)) (slab_weight (counted test (Some Head)) (counted test (Some Rest)) (counted test (Some Private)) (counted test (Some (Object (grant_of 0))))) lists.slabs
         (λ slab member.
         granules_sum (λ w. counted test (slab_holder slab w)) slab.index 2 (slab_within [] lists (beside_none lists holds.good) slab member).1
@@ -270,19 +271,19 @@ region_weighs test none same state lists holds =
 
     stored : sum_below (λ o. sum_by (stored_share (counted test (Some (SlabCache 0))) o) lists.stored) (2 ^ 64) ≡ sum_by (λ index. 16384 * counted test (Some (SlabCache 0))) lists.stored
     stored =
-        sum_swap (λ index o. stored_share (counted test (Some (SlabCache 0))) o index) lists.stored (2 ^ 64)
+        sum_below-sum_by (λ index o. stored_share (counted test (Some (SlabCache 0))) o index) lists.stored (2 ^ 64)
         ∙ sum_by-same (λ index. sum_below (λ o. stored_share (counted test (Some (SlabCache 0))) o index) (2 ^ 64)) (λ index. 16384 * counted test (Some (SlabCache 0))) lists.stored
         (λ index member.
         granules_sum (λ w. counted test (Some (SlabCache 0))) index 2 (stored_within [] lists (beside_none lists holds.good) index member).1
-        ∙ sum_const (λ w. counted test (Some (SlabCache 0))) 16384 (counted test (Some (SlabCache 0))) (λ k below. refl))
+        ∙ sum_below-const (λ w. counted test (Some (SlabCache 0))) 16384 (counted test (Some (SlabCache 0))) (λ k below. refl))
 
     blocks : sum_below (λ o. sum_by (block_share (counted test (Some Bin)) o) lists.blocks) (2 ^ 64) ≡ sum_by (λ block. 8192 * block.granules * counted test (Some Bin)) lists.blocks
     blocks =
-        sum_swap (λ block o. block_share (counted test (Some Bin)) o block) lists.blocks (2 ^ 64)
+        sum_below-sum_by (λ block o. block_share (counted test (Some Bin)) o block) lists.blocks (2 ^ 64)
         ∙ sum_by-same (λ block. sum_below (λ o. block_share (counted test (Some Bin)) o block) (2 ^ 64)) (λ block. 8192 * block.granules * counted test (Some Bin)) lists.blocks
         (λ block member.
         granules_sum (λ w. counted test (Some Bin)) block.first block.granules (block_within [] lists (beside_none lists holds.good) block member).1
-        ∙ sum_const (λ w. counted test (Some Bin)) (8192 * block.granules) (counted test (Some Bin)) (λ k below. refl))
+        ∙ sum_below-const (λ w. counted test (Some Bin)) (8192 * block.granules) (counted test (Some Bin)) (λ k below. refl))
 
 -- no byte of another region has a holder
 pub other_region : (test : Option Holder → Bool) → test None ≡ false → (state : State) (lists : Lists) → Holds state lists → (p r : ℕ) → ((p == 0) && (r == 0)) ≡ false → region_bytes test state.held p r ≡ 0

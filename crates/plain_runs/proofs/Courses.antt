@@ -13,11 +13,11 @@ use Rattle.pool_types.specs.declared.policy.RegionRec.{RegionRec}
 use Rattle.part_model.specs.declared.moves.Part.{Part}
 use Rattle.machine.specs.States.{State}
 use Rattle.machine.specs.Ranges.{Each}
-use Rattle.machine.specs.Journal.{Entry, BookChange, Sight, Nothing_seen, is_object, after_entry, after}
+use Rattle.machine.specs.Journal.{Entry, BookChange, Sight, Nothing_seen, is_object, after_entry, after_entries}
 use Rattle.machine.specs.Answers.{Call, Moment, AtStep, moved_parts, granted, lasting, ended_but, same_object}
 use Rattle.machine.specs.Suits.{wants_object, place_to_free}
 use Rattle.machine.specs.Runs.{Event, Begins, Makes, Progress, Serving, at_rest, makes_large, MayBegin, MayStep, IsRunFrom, IsMoveOf, MayEnd, after_events}
-use Rattle.machine.proofs.Shapes.{each-map, each-append}
+use Rattle.machine.proofs.CallerLemmas.{each-map, each-append}
 use Rattle.plain_runs.specs.Steps.{fixed_terms, step_of}
 use Rattle.plain_runs.proofs.Moves.{IsQuiet, none_any, IsMade}
 use Rattle.plain_runs.proofs.GranuleSteps.{IsQuietStep, quiet_stays}
@@ -134,14 +134,14 @@ quiet_step request state entry step = record {
 
 -- quiet steps lead on
 pub quiet_leads : (request : Request) (before state : State) (moments : List Moment) (entries : List Entry) → AreQuiet state entries →
-    Lead request before state moments entries (after state entries) (moments ++ moments_of state entries)
+    Lead request before state moments entries (after_entries state entries) (moments ++ moments_of state entries)
 quiet_leads request before state moments [] quiet =
     subst (λ ms. Lead request before state moments [] state ms) (sym (append-nil moments)) (record { run = λ events rest. rest; ends = λ events. refl })
 quiet_leads request before state moments (entry ∷ entries) (first, rest) =
     let one = one_leads request before state moments entry (quiet_step request state entry first) in
     let other = quiet_leads request before (after_entry state entry) (moments ++ moment state entry ∷ []) entries rest in
-    subst (λ ms. Lead request before state moments (entry ∷ entries) (after state (entry ∷ entries)) ms) (append_assoc moments (moment state entry ∷ []) (moments_of (after_entry state entry) entries))
-    (lead_on request before state moments entry entries (after_entry state entry) (moments ++ moment state entry ∷ []) ((moments ++ moment state entry ∷ []) ++ moments_of (after_entry state entry) entries) (after state (entry ∷ entries)) one other)
+    subst (λ ms. Lead request before state moments (entry ∷ entries) (after_entries state (entry ∷ entries)) ms) (append_assoc moments (moment state entry ∷ []) (moments_of (after_entry state entry) entries))
+    (lead_on request before state moments entry entries (after_entry state entry) (moments ++ moment state entry ∷ []) ((moments ++ moment state entry ∷ []) ++ moments_of (after_entry state entry) entries) (after_entries state (entry ∷ entries)) one other)
 
 -- the parts of quiet steps
 pub quiet_parts : (state : State) (entries : List Entry) → AreQuiet state entries → Each IsQuiet (moved_parts (moments_of state entries))
@@ -154,13 +154,13 @@ pub moved_parts-append : (one other : List Moment) → moved_parts (one ++ other
 moved_parts-append one other = flat_map-append (λ (m : Moment). m.entry.parts) one other
 
 -- quiet steps after quiet steps
-pub quiet_append : (state : State) (one other : List Entry) → AreQuiet state one → AreQuiet (after state one) other → AreQuiet state (one ++ other)
+pub quiet_append : (state : State) (one other : List Entry) → AreQuiet state one → AreQuiet (after_entries state one) other → AreQuiet state (one ++ other)
 quiet_append state [] other quiet rest = rest
 quiet_append state (entry ∷ one) other (first, quiet) rest = (first, quiet_append (after_entry state entry) one other quiet rest)
 
-pub after-append : (state : State) (one other : List Entry) → after state (one ++ other) ≡ after (after state one) other
-after-append state [] other = refl
-after-append state (entry ∷ one) other = after-append (after_entry state entry) one other
+pub after_entries-append : (state : State) (one other : List Entry) → after_entries state (one ++ other) ≡ after_entries (after_entries state one) other
+after_entries-append state [] other = refl
+after_entries-append state (entry ∷ one) other = after_entries-append (after_entry state entry) one other
 
 -- a fact of the last step
 pub at_last : (fact : State → Type 0) (moments : List Moment) (last : Moment) → fact last.state → AtStep fact (moments ++ last ∷ [])

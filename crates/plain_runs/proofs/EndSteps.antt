@@ -10,16 +10,16 @@ use Rattle.part_model.specs.declared.holders.Holder.TheVariants.{Head, Rest, Pri
 use Rattle.part_model.specs.declared.moves.Range.{Range}
 use Rattle.part_model.specs.declared.moves.Part.{Part}
 use Rattle.part_model.specs.Holding.{same_region, lies_in, IsWhole, AreApart, CanMoveAll}
-use Rattle.part_model.proofs.Changes.{after_parts-at}
-use Rattle.part_model.proofs.Ranges.{lies_in-parts, same_region-parts}
+use Rattle.part_model.proofs.CallerLemmas.{after_parts-at, lies_in-parts, same_region-parts, apart_before}
 use Rattle.size_classes.specs.Classes.{class_size, class_objects}
+use Rattle.size_classes.specs.Layout.{head_bytes}
 use Rattle.machine.specs.States.{State, Slab}
-use Rattle.machine.specs.Ranges.{Each, head_range, head_bytes, same_place}
+use Rattle.machine.specs.Ranges.{Each, head_range, same_place}
 use Rattle.machine.specs.Journal.{Leaves as Gone, goes}
 use Rattle.machine.specs.Lawful.{slab_ends, TakesOfSlab}
-use Rattle.machine.proofs.Moving.{apart_before, each-all, lies_within}
+use Rattle.machine.proofs.CallerLemmas.{each-all, lies_within}
 use Rattle.plain_lists.specs.Lists.{OwnSlab, lies_on}
-use Rattle.plain_lists.proofs.Members.{Contains-filter, Contains-filter_from}
+use Rattle.list_laws.proofs.Members.{Contains-filter, Contains-filter_from}
 use Rattle.plain_runs.specs.Steps.{at_offset, granule_place, slab_of, end_step, rest_range, handed_range}
 use Rattle.plain_runs.proofs.Layouts.{InHand, OfSlab, Layout, held_as, object_with, slab_holder, held_by, laid, IsLaid, IsBooked, Knows, some_bytes, one_more, HasByteOf, object_with-has, slab_holder-head, slab_holder-behind}
 use Rattle.plain_runs.proofs.Moves.{granules_range, moved_laid, plain_no_slab, laid-inside, laid-outside, IsQuiet}

@@ -11,20 +11,18 @@ use Rattle.pool_types.specs.declared.values.Answer.TheVariants.{Freed as FreedAn
 use Rattle.part_model.specs.declared.holders.Holder.TheVariants.{Private, Object, Hand}
 use Rattle.part_model.specs.declared.moves.Part.{Part}
 use Rattle.size_classes.specs.Classes.{class_size}
-use Rattle.slab_core.specs.Layout.{object_offset}
 use Rattle.machine.specs.States.{State}
 use Rattle.machine.specs.Ranges.{Each}
-use Rattle.machine.specs.Journal.{Entry, Nothing_seen, after_entry, after}
+use Rattle.machine.specs.Journal.{Entry, Nothing_seen, after_entry, after_entries}
 use Rattle.machine.specs.Lawful.{nothing_moves}
 use Rattle.machine.specs.Answers.{Moment, moved_parts}
-use Rattle.machine.proofs.Shapes.{each-append}
-use Rattle.machine.proofs.Mallocs.{nothing_moved}
-use Rattle.machine.proofs.Moving.{none_whole, none_apart}
+use Rattle.machine.proofs.CallerLemmas.{each-append, nothing_moved, none_whole, none_apart}
 use Rattle.plain_lists.specs.Lists.{OwnSlab, Lists, lies_on, taken_back, is_unused, changed, without}
 use Rattle.plain_lists.specs.Backend.{after_puts}
 use Rattle.plain_lists.specs.Whole.{Spot, grant_of, place_at, whole, spot_at, frees, free_of, shelved, trimmed}
 use Rattle.plain_lists.specs.Good.{AreGood, IsGoodSlab, IsHeld, nones}
-use Rattle.plain_lists.proofs.Members.{Contains-append, Contains-single}
+use Rattle.std.proofs.lemmas.List.Elements.{Contains-append_cases}
+use Rattle.list_laws.proofs.Members.{Contains-single}
 use Rattle.plain_lists.proofs.SlabLists.{Contains-without}
 use Rattle.plain_lists.proofs.Gets.{nones-set_none}
 use Rattle.plain_lists.proofs.Beside.{AreGoodBeside, beside_none}
@@ -49,9 +47,8 @@ use Rattle.plain_runs.proofs.PutSteps.{IsPut, slabs_put}
 
 -- an object comes back, then quiet steps, and then the answer
 pub run_freed : (state : State) (lists' : Lists) (slab : OwnSlab) (object number : ℕ) (entries : List Entry) → IsMade state (free_step slab object number).parts [] None →
-    AreQuiet (after_entry state (free_step slab object number)) entries → Holds (after (after_entry state (free_step slab object number)) entries) lists' →
+    AreQuiet (after_entry state (free_step slab object number)) entries → Holds (after_entries (after_entry state (free_step slab object number)) entries) lists' →
     WholeRuns state (Free (Some (place_at slab.index slab.class object))) (free_step slab object number ∷ (entries ++ still_step (Some FreedAnswer) ∷ [])) lists'
-unfolding object_offset
 run_freed state lists' slab object number entries made quiet holds = record {
   next = next;
   runs = call_runs state (Free (Some (place_at slab.index slab.class object))) (free_step slab object number ∷ entries) next moments [] Nothing_seen FreedAnswer
@@ -87,7 +84,7 @@ run_freed state lists' slab object number entries made quiet holds = record {
     freed = after_entry state (free_step slab object number)
 
     next : State
-    next = after (after_entry state (free_step slab object number)) entries
+    next = after_entries (after_entry state (free_step slab object number)) entries
 
     first : Moment
     first = moment state (free_step slab object number)
@@ -96,7 +93,7 @@ run_freed state lists' slab object number entries made quiet holds = record {
     moments = moment state (free_step slab object number) ∷ moments_of (after_entry state (free_step slab object number)) entries
 
     others : List Part
-    others = moved_parts (moments_of (after_entry state (free_step slab object number)) entries ++ moment (after (after_entry state (free_step slab object number)) entries) (still_step (Some FreedAnswer)) ∷ [])
+    others = moved_parts (moments_of (after_entry state (free_step slab object number)) entries ++ moment (after_entries (after_entry state (free_step slab object number)) entries) (still_step (Some FreedAnswer)) ∷ [])
 
     others_quiet : Each IsQuiet others
     others_quiet = subst (Each IsQuiet) (sym (moved_parts-append (moments_of freed entries) (moment next (still_step (Some FreedAnswer)) ∷ [])))
@@ -158,7 +155,7 @@ lays_shelved lists layout slab one other lays member = record {
   slabs_are = λ s listed g on.
       let both = Contains-without slab.index lists.slabs s listed in
       same g (OfSlab s) (lays.slabs_are s both.0 g on) (λ is. both.1 (ap (λ (o : OwnSlab). o.index) (sym (same_slab slab s is))));
-  stored_are = λ i listed g on. elim (Contains-append lists.stored (slab.index ∷ []) i listed) [
+  stored_are = λ i listed g on. elim (Contains-append_cases lists.stored (slab.index ∷ []) i listed) [
     | inl old ↦ same g InCache (lays.stored_are i old g on) (λ is. plain_no_slab InCache slab refl (sym is))
     | inr new ↦ laid-inside (laid (laid layout slab.index 2 one) slab.index 2 other) slab.index 2 InCache g (ap (λ k. lies_on k 2 g) (Contains-single slab.index i new) ∙ on)
   ];
@@ -214,7 +211,7 @@ run_shelf state lists slab object number holds member held unused good =
     (lays_shelved lists holds.layout slab (OfSlab (taken_back slab object)) InHand holds.lays member) shelf.knows in
     run_freed state (shelved lists slab.index) slab object number (shelf_steps lists (taken_back slab object)) back.made (end'.step, (shelf.step, trim.quiet)) (record {
       layout = trim.layout;
-      knows = subst (λ reg. Knows (after (after_entry state (free_step slab object number)) (shelf_steps lists (taken_back slab object))) trim.layout reg (shelved lists slab.index).granted)
+      knows = subst (λ reg. Knows (after_entries (after_entry state (free_step slab object number)) (shelf_steps lists (taken_back slab object))) trim.layout reg (shelved lists slab.index).granted)
           (sym (trimmed_region (with_stored lists slab.index) ∙ there.1)) trim.knows;
       lays = trim.lays;
       good = good;

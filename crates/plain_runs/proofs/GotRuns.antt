@@ -4,14 +4,12 @@ use Rattle.std.proofs.lemmas.Bool.{OnTrue_from}
 use Rattle.pool_types.specs.declared.values.Request.TheVariants.{Malloc}
 use Rattle.part_model.specs.declared.holders.Holder.TheVariants.{Object, Hand}
 use Rattle.part_model.specs.declared.moves.Part.{Part}
-use Rattle.size_classes.specs.Classes.{class_size, class_objects, first_class}
-use Rattle.slab_core.specs.Layout.{object_offset}
+use Rattle.size_classes.specs.Classes.{class_size, class_objects, class_of}
 use Rattle.machine.specs.States.{State}
-use Rattle.machine.specs.Journal.{Entry, Nothing_seen, is_object, after_entry, after}
+use Rattle.machine.specs.Journal.{Entry, Nothing_seen, is_object, after_entry, after_entries}
 use Rattle.machine.specs.Suits.{Suits}
 use Rattle.machine.specs.Answers.{Moment, IsAccepted, moved_parts, lasting, ended}
-use Rattle.machine.proofs.Mallocs.{malloc_accepted}
-use Rattle.machine.proofs.Shapes.{each-append}
+use Rattle.machine.proofs.CallerLemmas.{malloc_accepted, each-append}
 use Rattle.plain_lists.specs.Lists.{OwnSlab, Lists, next_object}
 use Rattle.plain_lists.specs.Whole.{grant_of, got, place_at}
 use Rattle.plain_runs.specs.Steps.{fixed_terms, one_region, giver, grant_step}
@@ -24,7 +22,7 @@ use Rattle.plain_runs.proofs.Legal.{never, none_in_hand, object_suits}
 -- what a malloc of this size needs to know
 pub record IsAsked (state : State) (lists : Lists) (size class : ℕ) : Type 0 where
   pub small : size ≤ 8128
-  pub found : first_class size ≡ Some class
+  pub found : class_of size ≡ Some class
   pub room : lists.granted < 2 ^ 55 - 1
   pub holds : Holds state lists
 
@@ -41,12 +39,11 @@ giver_no_object (object ∷ private) = refl
 
 -- quiet steps, and then a grant
 pub got_runs : (state : State) (lists lists' : Lists) (size : ℕ) (slab : OwnSlab) (entries : List Entry) (number : ℕ) → IsAsked state lists size slab.class → AreQuiet state entries →
-    IsMade (after state entries) (grant_step slab number).parts [] None → next_object slab < class_objects slab.class → slab.index + 2 ≤ 128 → (after state entries).regions ≡ one_region ∷ [] →
-    Holds (after_entry (after state entries) (grant_step slab number)) lists' →
-    CallRuns state (Malloc size) (entries ++ grant_step slab number ∷ []) (after_entry (after state entries) (grant_step slab number))
-unfolding object_offset
+    IsMade (after_entries state entries) (grant_step slab number).parts [] None → next_object slab < class_objects slab.class → slab.index + 2 ≤ 128 → (after_entries state entries).regions ≡ one_region ∷ [] →
+    Holds (after_entry (after_entries state entries) (grant_step slab number)) lists' →
+    CallRuns state (Malloc size) (entries ++ grant_step slab number ∷ []) (after_entry (after_entries state entries) (grant_step slab number))
 got_runs state lists lists' size slab entries number asked quiet made exists inside regions holds =
-    call_runs state (Malloc size) entries (after state entries) (moments_of state entries) (part ∷ []) Nothing_seen (got slab.index slab.class (next_object slab) number)
+    call_runs state (Malloc size) entries (after_entries state entries) (moments_of state entries) (part ∷ []) Nothing_seen (got slab.index slab.class (next_object slab) number)
     (quiet_leads (Malloc size) state state [] entries quiet)
     (record {
       whole = made.whole;
@@ -66,13 +63,13 @@ got_runs state lists lists' size slab entries number asked quiet made exists ins
                 of_seat = refl;
               };
               suits = at_last (λ s. Suits fixed_terms.limits s (Malloc size) (place_at slab.index slab.class (next_object slab)) (class_size slab.class)) (moments_of state entries) last
-                  (object_suits (after state entries) size slab.class slab.index (next_object slab) regions inside asked.found asked.small exists);
+                  (object_suits (after_entries state entries) size slab.class slab.index (next_object slab) regions inside asked.found asked.small exists);
             },
             ap ended parts_are ∙ ended_none [] (moved_parts (moments_of state entries) ++ part ∷ [])
                 (each-append (λ (p : Part). is_object p.from ≡ false) (moved_parts (moments_of state entries)) (part ∷ []) (quiet_from (moved_parts (moments_of state entries)) (quiet_parts state entries quiet)) (giver_no_object slab.private, tt)),
           );
-          no_hand = never (after_entry (after state entries) (grant_step slab number)) lists' holds (Some (Hand 0)) refl;
-          no_slab = none_in_hand (after_entry (after state entries) (grant_step slab number)) lists' holds;
+          no_hand = never (after_entry (after_entries state entries) (grant_step slab number)) lists' holds (Some (Hand 0)) refl;
+          no_slab = none_in_hand (after_entry (after_entries state entries) (grant_step slab number)) lists' holds;
         },
       );
       moves = record { grants = tt; ends = (OnTrue_from (is_object (Some (giver slab.private))) _ (λ is. absurd (let clash : true ≡ false = sym is ∙ giver_no_object slab.private in cc)), tt); keeps = refl };
@@ -82,7 +79,7 @@ got_runs state lists lists' size slab entries number asked quiet made exists ins
     part = object_part slab (next_object slab) (Some (giver slab.private)) (Some (Object (grant_of number)))
 
     last : Moment
-    last = moment (after state entries) (grant_step slab number)
+    last = moment (after_entries state entries) (grant_step slab number)
 
     parts_are : moved_parts (moments_of state entries ++ last ∷ []) ≡ moved_parts (moments_of state entries) ++ part ∷ []
     parts_are = moved_parts-append (moments_of state entries) (last ∷ [])

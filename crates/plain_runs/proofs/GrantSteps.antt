@@ -10,18 +10,19 @@ use Rattle.part_model.specs.declared.holders.Holder.{Holder}
 use Rattle.part_model.specs.declared.holders.Holder.TheVariants.{Rest, Private, Object}
 use Rattle.part_model.specs.declared.moves.Part.{Part}
 use Rattle.part_model.specs.Lawful.{is_lawful_pair}
-use Rattle.part_model.proofs.Ranges.{lies_in-parts}
+use Rattle.part_model.proofs.CallerLemmas.{lies_in-parts}
 use Rattle.size_classes.specs.Classes.{class_size, class_objects}
+use Rattle.size_classes.specs.Layout.{head_bytes}
 use Rattle.machine.specs.States.{State}
-use Rattle.machine.specs.Ranges.{part_of, behind_object, head_bytes}
+use Rattle.machine.specs.Ranges.{part_of, behind_object}
 use Rattle.machine.specs.Journal.{after_entry}
 use Rattle.machine.specs.Lawful.{IsLawful, IsHighestRest, rest_granted, private_granted, object_freed}
-use Rattle.machine.proofs.Moving.{one_whole}
+use Rattle.machine.proofs.CallerLemmas.{one_whole}
 use Rattle.plain_lists.specs.Lists.{OwnSlab, given, next_object, taken_back}
 use Rattle.plain_lists.specs.Whole.{grant_of, got}
 use Rattle.plain_lists.specs.Good.{IsGoodSlab}
 use Rattle.plain_lists.proofs.Slabs.{CanGive, given-private, given-next, next_object-private, next_object-next, private_listed, given_next, given_other}
-use Rattle.plain_lists.proofs.Gets.{slice_get-set_same, slice_get-set_other}
+use Rattle.list_laws.proofs.Gets.{slice_get-set_same, slice_get-set_other}
 use Rattle.plain_runs.specs.Steps.{fixed_terms, slab_of, grant_step, giver, free_step}
 use Rattle.plain_runs.proofs.Layouts.{OfSlab, Layout, held_as, object_with, laid, IsLaid, Knows, some_bytes, object_with-has, slab_holder-behind}
 use Rattle.plain_runs.proofs.Moves.{IsMade}

@@ -14,15 +14,14 @@ use Rattle.part_model.specs.declared.moves.Part.{Part}
 use Rattle.part_model.specs.Holding.{lies_in, after_part, after_parts, IsWhole, IsApartFromAll, AreApart, CanMoveAll}
 use Rattle.part_model.specs.Lawful.{is_lawful_pair}
 use Rattle.part_model.specs.Totals.{has_holder}
-use Rattle.part_model.proofs.Changes.{after_parts-at}
-use Rattle.part_model.proofs.Ranges.{lies_in-parts, lies_in-not}
+use Rattle.part_model.proofs.CallerLemmas.{after_parts-at, lies_in-parts, lies_in-not, apart_before}
+use Rattle.list_laws.proofs.Members.{Contains-none}
 use Rattle.machine.specs.States.{State, Slab}
 use Rattle.machine.specs.Ranges.{Each, part_of, parts_of, slab_range, IsGranules, IsOffBook, IsSlabRoom}
 use Rattle.machine.specs.Regions.{coming_parts, IsNewRegion}
 use Rattle.machine.specs.Journal.{Entry, BookChange, Nothing_seen, is_object, after_entry}
 use Rattle.machine.specs.Lawful.{IsLawful, region_comes, blocks_put, bins_taken, slab_stored, slab_fetched}
-use Rattle.machine.proofs.Shapes.{each-map, each-parts_of}
-use Rattle.machine.proofs.Moving.{apart_before, one_whole, each-all}
+use Rattle.machine.proofs.CallerLemmas.{each-map, each-parts_of, one_whole, each-all}
 use Rattle.plain_lists.specs.Lists.{Block, lies_on, first_region}
 use Rattle.plain_lists.specs.Backend.{slab_block}
 use Rattle.plain_runs.specs.Steps.{fixed_terms, one_region, granule_place, block_range, step_of, blocks_step, store_step, fetch_step, come_step}
@@ -245,14 +244,10 @@ unshelf_step state layout region granted index even inside all knows =
     (slab_fetched (granule_place index) (slab_room state layout region granted index even inside (λ g on. ap is_plain (all g on)) knows))
     (record { some = lit< tt; inside = inside }, tt) (tt, tt) (all, tt) knows
 
--- no region lies in an empty list
-no_member : {X : Type 0} → (x : X) → Contains [] x → ⊥
-no_member x member = omega (arith, member.1)
-
 -- the first region can come
 pub first_can_come : (state : State) → state.regions ≡ [] → state.next ≡ 0 → IsNewRegion fixed_terms state one_region
 first_can_come state none next =
-    let empty : (region : RegionRec) → Contains state.regions region → ⊥ = λ region member. no_member region (subst (λ (rs : List RegionRec). Contains rs region) none member) in
+    let empty : (region : RegionRec) → Contains state.regions region → ⊥ = λ region member. Contains-none region (subst (λ (rs : List RegionRec). Contains rs region) none member) in
     record {
       number = record {
         unused = omega (arith, next);

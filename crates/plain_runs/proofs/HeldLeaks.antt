@@ -7,15 +7,16 @@ use Rattle.std.proofs.lemmas.Bool.{eqb-true, eq-eqb}
 use Rattle.pool_types.specs.declared.values.Leak.{Leak}
 use Rattle.part_model.specs.declared.holders.Holder.TheVariants.{Object}
 use Rattle.part_model.specs.Holding.{lies_in}
-use Rattle.part_model.proofs.Ranges.{lies_in-is}
+use Rattle.part_model.proofs.CallerLemmas.{lies_in-is}
 use Rattle.size_classes.specs.Classes.{class_size, class_objects}
-use Rattle.slab_core.specs.Layout.{object_offset}
 use Rattle.machine.specs.States.{State}
 use Rattle.plain_lists.specs.Lists.{OwnSlab, Lists}
 use Rattle.plain_lists.specs.Whole.{grant_of, place_at}
 use Rattle.plain_lists.specs.Held.{leak_at, leaks_of, slab_leaks, leaks_from, leaks_at}
 use Rattle.plain_lists.specs.Good.{IsHeld}
-use Rattle.plain_lists.proofs.Members.{Contains-first, Contains-none, Contains-single, Contains-append, Contains-of_left, Contains-of_right, find-Some, find-None}
+use Rattle.list_laws.proofs.Members.{Contains-first, Contains-none, Contains-single}
+use Rattle.std.proofs.lemmas.List.Elements.{Contains-append_cases, Contains-append_left, Contains-append_right}
+use Rattle.list_laws.proofs.Finds.{find-Some, find-None}
 use Rattle.plain_lists.proofs.Beside.{beside_none}
 use Rattle.plain_lists.proofs.Within.{one_slab, slab_within}
 use Rattle.plain_lists.proofs.Granules.{lies_on-parts}
@@ -33,7 +34,7 @@ leaks_of-member : (slab : OwnSlab) (object : ℕ) (objects : List (Option ℕ)) 
     (k : ℕ) × (number : ℕ) × (slice_get objects k ≡ Some (Some number)) × (leak ≡ held_leak slab (object + k) number)
 leaks_of-member slab object [] leak member = absurd (Contains-none leak member)
 leaks_of-member slab object (held ∷ more) leak member =
-    go held refl (Contains-append (leaks_of slab (object + 1) more) (leak_at slab object held) leak member) (λ later. leaks_of-member slab (object + 1) more leak later)
+    go held refl (Contains-append_cases (leaks_of slab (object + 1) more) (leak_at slab object held) leak member) (λ later. leaks_of-member slab (object + 1) more leak later)
   where
     go : (h : Option ℕ) → held ≡ h → Contains (leaks_of slab (object + 1) more) leak ⊎ Contains (leak_at slab object h) leak →
         (Contains (leaks_of slab (object + 1) more) leak → (k : ℕ) × (number : ℕ) × (slice_get more k ≡ Some (Some number)) × (leak ≡ held_leak slab (object + 1 + k) number)) →
@@ -52,7 +53,7 @@ leaks_of-has : (slab : OwnSlab) (object : ℕ) (objects : List (Option ℕ)) (k 
 leaks_of-has slab object [] k number is = absurd (let clash = is in cc)
 leaks_of-has slab object (held ∷ more) zero number is =
     let same : object ≡ object + 0 = omega arith in
-    Contains-of_right (leaks_of slab (object + 1) more) (leak_at slab object held) (held_leak slab (object + 0) number)
+    Contains-append_right (leaks_of slab (object + 1) more) (leak_at slab object held) (held_leak slab (object + 0) number)
     (subst (λ h. Contains (leak_at slab object h) (held_leak slab (object + 0) number)) (sym (held_is held is)) (subst (λ n. Contains (held_leak slab object number ∷ []) (held_leak slab n number)) same (Contains-first (held_leak slab object number) [])))
   where
     held_is : (h : Option ℕ) → ◌≡◌ {A = Option (Option ℕ)} (Some h) (Some (Some number)) → h ≡ Some number
@@ -60,7 +61,7 @@ leaks_of-has slab object (held ∷ more) zero number is =
 leaks_of-has slab object (held ∷ more) (suc k) number is =
     let same : object + 1 + k ≡ object + suc k = omega arith in
     subst (λ n. Contains (leaks_of slab (object + 1) more ++ leak_at slab object held) (held_leak slab n number)) same
-    (Contains-of_left (leaks_of slab (object + 1) more) (leak_at slab object held) (held_leak slab (object + 1 + k) number) (leaks_of-has slab (object + 1) more k number is))
+    (Contains-append_left (leaks_of slab (object + 1) more) (leak_at slab object held) (held_leak slab (object + 1 + k) number) (leaks_of-has slab (object + 1) more k number is))
 
 -- what is listed of all slabs
 pub record IsLeak (slabs : List OwnSlab) (leak : Leak) : Type 0 where
@@ -74,7 +75,7 @@ pub record IsLeak (slabs : List OwnSlab) (leak : Leak) : Type 0 where
 pub leaks_from-member : (rooms index : ℕ) (slabs : List OwnSlab) (leak : Leak) → Contains (leaks_from rooms index slabs) leak → IsLeak slabs leak
 unfolding leaks_from
 leaks_from-member zero index slabs leak member = absurd (Contains-none leak member)
-leaks_from-member (suc rooms) index slabs leak member = elim (Contains-append (slab_leaks (find (λ slab. slab.index == index) slabs)) (leaks_from rooms (index + 2) slabs) leak member) [
+leaks_from-member (suc rooms) index slabs leak member = elim (Contains-append_cases (slab_leaks (find (λ slab. slab.index == index) slabs)) (leaks_from rooms (index + 2) slabs) leak member) [
   | inl here ↦ of_slab slabs index leak (find (λ slab. slab.index == index) slabs) refl here
   | inr later ↦ leaks_from-member rooms (index + 2) slabs leak later
 ]
@@ -102,10 +103,10 @@ unfolding leaks_from
 leaks_from-has zero index slabs slab j leak below is found listed = absurd (omega arith)
 leaks_from-has (suc rooms) index slabs slab zero leak below is found listed =
     let same : slab.index ≡ index = omega arith in
-    Contains-of_left (slab_leaks (find (λ s. s.index == index) slabs)) (leaks_from rooms (index + 2) slabs) leak
+    Contains-append_left (slab_leaks (find (λ s. s.index == index) slabs)) (leaks_from rooms (index + 2) slabs) leak
     (subst (λ s. Contains (slab_leaks s) leak) (sym (subst (λ i. find (λ (s : OwnSlab). s.index == i) slabs ≡ Some slab) same found)) listed)
 leaks_from-has (suc rooms) index slabs slab (suc j) leak below is found listed =
-    Contains-of_right (slab_leaks (find (λ s. s.index == index) slabs)) (leaks_from rooms (index + 2) slabs) leak
+    Contains-append_right (slab_leaks (find (λ s. s.index == index) slabs)) (leaks_from rooms (index + 2) slabs) leak
     (leaks_from-has rooms (index + 2) slabs slab j leak (omega arith) (omega arith) found listed)
 
 -- the objects lie between two offsets, in order
@@ -125,7 +126,6 @@ within_from low high (leak ∷ leaks) within = (within.0, within_from (leak.plac
 -- one object of a slab
 one_within : (slab : OwnSlab) (object : ℕ) (held : Option ℕ) → object < class_objects slab.class →
     AreWithin (8192 * slab.index + (16384 - (object + 1) * class_size slab.class)) (8192 * slab.index + (16384 - object * class_size slab.class)) (leak_at slab object held)
-unfolding object_offset
 one_within slab object None below = let more = one_more object slab.class in omega (arith, more)
 one_within slab object (Some number) below =
     let more = one_more object slab.class in
@@ -170,7 +170,6 @@ from_within (suc rooms) index slabs few =
 
 -- the leaks of the lists are the objects that are held
 pub leaks_are : (state : State) (lists : Lists) → Holds state lists → AreLeaks state.held (leaks_at lists)
-unfolding object_offset
 leaks_are state lists holds = record {
   each = λ leak member byte inside.
       let found = leaks_from-member 64 0 lists.slabs leak member in

@@ -9,26 +9,25 @@ use Rattle.pool_types.specs.declared.values.Grant.{Grant}
 use Rattle.pool_types.specs.declared.values.Region.{Region}
 use Rattle.part_model.specs.declared.holders.Holder.{Holder}
 use Rattle.part_model.specs.declared.holders.Holder.TheVariants.{Head, Rest, Private, Object, SlabCache, Bin}
-use Rattle.part_model.specs.declared.holders.Kind.TheVariants.{Waste as OfWaste, Head as OfHead, Rest as OfRest, Private as OfPrivate, Public as OfPublic, Object as OfObject, LargeHead as OfLargeHead, SlabCache as OfSlabCache, Cached as OfCached, Bin as OfBin, Queue as OfQueue, Hand as OfHand}
+use Rattle.part_model.specs.declared.holders.HolderKind.TheVariants.{Waste as OfWaste, Head as OfHead, Rest as OfRest, Private as OfPrivate, Public as OfPublic, Object as OfObject, LargeHead as OfLargeHead, SlabCache as OfSlabCache, Cached as OfCached, Bin as OfBin, Queue as OfQueue, Hand as OfHand}
 use Rattle.part_model.specs.declared.totals.Totals.{Totals}
 use Rattle.part_model.specs.Holding.{Holding, same_region}
 use Rattle.part_model.specs.Totals.{is_at, has_holder, is_live, sum_regions, region_bytes, regions_held, place_at, totals_of}
-use Rattle.part_model.proofs.Sums.{sum_below-same, sum_below-none, sum_regions-same, sum_regions-none, sum_regions-one}
+use Rattle.part_model.proofs.CallerLemmas.{sum_regions-same, sum_regions-none, sum_regions-one}
 use Rattle.size_classes.specs.Classes.{class_size, class_objects}
-use Rattle.slab_core.specs.Layout.{head_bytes}
+use Rattle.size_classes.specs.Layout.{head_bytes}
 use Rattle.machine.specs.States.{State}
-use Rattle.machine.specs.Ranges.{head_bytes as bytes_before}
 use Rattle.plain_lists.specs.Lists.{OwnSlab, Block, Lists, lies_on}
 use Rattle.plain_lists.specs.Whole.{grant_of}
 use Rattle.plain_lists.specs.Good.{has_granule}
 use Rattle.plain_lists.specs.Held.{no_bytes, totals_in, totals_at, slab_head, slab_rest, slab_private, slab_object, block_bytes}
-use Rattle.plain_lists.proofs.Counting.{count-none}
+use Rattle.list_laws.proofs.Sums.{sum_below-same, sum_below-none, sum_by-same, sum_by-none, sum_below-const, sum_below-shifted}
+use Rattle.list_laws.proofs.Counts.{count-none}
 use Rattle.plain_runs.specs.Steps.{at_offset}
 use Rattle.plain_runs.proofs.Layouts.{Use, Away, InBin, InCache, OfSlab, held_as, object_with, slab_holder, holder_in, slab_holder-head, slab_holder-behind}
 use Rattle.plain_runs.proofs.Moves.{plain_no_slab}
 use Rattle.plain_runs.proofs.ObjectSteps.{held_by-in, held_by-out}
 use Rattle.plain_runs.proofs.LaidOut.{Holds, UseOf, none_has, slab_has, stored_has, block_has, use_of}
-use Rattle.plain_runs.proofs.SumLemmas.{sum_by-same, sum_by-none, sum_const, sum_span}
 use Rattle.plain_runs.proofs.ByteCounts.{counted, slab_weight, lists_weight, region_weighs, all_weigh, other_region}
 
 -- totals by their counts
@@ -77,7 +76,7 @@ weight_object h a b c z = grind arith
 -- members of no weight
 slabs_none : (slabs : List OwnSlab) → sum_by (slab_weight 0 0 0 0) slabs ≡ 0
 slabs_none slabs = sum_by-none (slab_weight 0 0 0 0) slabs
-    (λ slab member. weight_none (bytes_before slab.class) (class_objects slab.class - length slab.objects) (length slab.private) (length slab.objects - length slab.private) (class_size slab.class))
+    (λ slab member. weight_none (head_bytes slab.class) (class_objects slab.class - length slab.objects) (length slab.private) (length slab.objects - length slab.private) (class_size slab.class))
 
 stored_none : (stored : List ℕ) → sum_by (λ index. 16384 * 0) stored ≡ 0
 stored_none stored = sum_by-none (λ index. 16384 * 0) stored (λ index member. refl)
@@ -93,28 +92,27 @@ weighs_none : (lists : Lists) → lists_weight 0 0 0 0 0 0 lists ≡ 0
 weighs_none lists = omega (arith, slabs_none lists.slabs, stored_none lists.stored, blocks_none lists.blocks)
 
 weighs_head : (lists : Lists) → lists_weight 1 0 0 0 0 0 lists ≡ sum_by slab_head lists.slabs
-unfolding head_bytes
 weighs_head lists =
     let slabs = sum_by-same (slab_weight 1 0 0 0) slab_head lists.slabs
-    (λ slab member. weight_head (bytes_before slab.class) (class_objects slab.class - length slab.objects) (length slab.private) (length slab.objects - length slab.private) (class_size slab.class)) in
+    (λ slab member. weight_head (head_bytes slab.class) (class_objects slab.class - length slab.objects) (length slab.private) (length slab.objects - length slab.private) (class_size slab.class)) in
     omega (arith, slabs, stored_none lists.stored, blocks_none lists.blocks)
 
 weighs_rest : (lists : Lists) → lists_weight 0 1 0 0 0 0 lists ≡ sum_by slab_rest lists.slabs
 weighs_rest lists =
     let slabs = sum_by-same (slab_weight 0 1 0 0) slab_rest lists.slabs
-    (λ slab member. weight_rest (bytes_before slab.class) (class_objects slab.class - length slab.objects) (length slab.private) (length slab.objects - length slab.private) (class_size slab.class)) in
+    (λ slab member. weight_rest (head_bytes slab.class) (class_objects slab.class - length slab.objects) (length slab.private) (length slab.objects - length slab.private) (class_size slab.class)) in
     omega (arith, slabs, stored_none lists.stored, blocks_none lists.blocks)
 
 weighs_private : (lists : Lists) → lists_weight 0 0 1 0 0 0 lists ≡ sum_by slab_private lists.slabs
 weighs_private lists =
     let slabs = sum_by-same (slab_weight 0 0 1 0) slab_private lists.slabs
-    (λ slab member. weight_private (bytes_before slab.class) (class_objects slab.class - length slab.objects) (length slab.private) (length slab.objects - length slab.private) (class_size slab.class)) in
+    (λ slab member. weight_private (head_bytes slab.class) (class_objects slab.class - length slab.objects) (length slab.private) (length slab.objects - length slab.private) (class_size slab.class)) in
     omega (arith, slabs, stored_none lists.stored, blocks_none lists.blocks)
 
 weighs_object : (lists : Lists) → lists_weight 0 0 0 1 0 0 lists ≡ sum_by slab_object lists.slabs
 weighs_object lists =
     let slabs = sum_by-same (slab_weight 0 0 0 1) slab_object lists.slabs
-    (λ slab member. weight_object (bytes_before slab.class) (class_objects slab.class - length slab.objects) (length slab.private) (length slab.objects - length slab.private) (class_size slab.class)) in
+    (λ slab member. weight_object (head_bytes slab.class) (class_objects slab.class - length slab.objects) (length slab.private) (length slab.objects - length slab.private) (class_size slab.class)) in
     omega (arith, slabs, stored_none lists.stored, blocks_none lists.blocks)
 
 weighs_cache : (lists : Lists) → lists_weight 0 0 0 0 1 0 lists ≡ 16384 * length lists.stored
@@ -134,7 +132,7 @@ weighs_bin lists =
 
 -- each byte of a slab has a holder
 slab_has_holder : (slab : OwnSlab) (within : ℕ) → has_holder (slab_holder slab within) ≡ true
-slab_has_holder slab within = elim (cases_lt within (bytes_before slab.class)) [
+slab_has_holder slab within = elim (cases_lt within (head_bytes slab.class)) [
   | inl head ↦ ap has_holder (slab_holder-head slab within head)
   | inr behind ↦ ap has_holder (slab_holder-behind slab within behind) ∙ by_object (slice_get slab.objects (object_with slab.class within))
 ]
@@ -173,8 +171,8 @@ region_held : (state : State) (lists : Lists) (holds : Holds state lists) → is
 unfolding region_bytes
 region_held state lists holds there =
     sum_below-same (λ o. counted has_holder (state.held (at_offset o))) (λ o. if nat_le 0 o && nat_lt o (0 + 1048576) then 1 else 0) (2 ^ 64) (λ o below. at o)
-    ∙ sum_span (λ k. 1) 0 1048576 (2 ^ 64) (lit≤ tt)
-    ∙ sum_const (λ k. 1) 1048576 1 (λ k below. refl)
+    ∙ sum_below-shifted (λ k. 1) 0 1048576 (2 ^ 64) (lit≤ tt)
+    ∙ sum_below-const (λ k. 1) 1048576 1 (λ k below. refl)
   where
     at : (o : ℕ) → counted has_holder (state.held (at_offset o)) ≡ (if nat_le 0 o && nat_lt o (0 + 1048576) then 1 else 0)
     at o = elim (cases_lt o 1048576) [

@@ -20,7 +20,7 @@ use Rattle.plain_lists.specs.Backend.{first_fit, after_put, after_puts, slab_blo
 use Rattle.plain_lists.specs.Whole.{Outcome, Spot, whole, IsServed, lists_after, answers_to, class_at, newest, begins_in, malloc_from, stored_room, block_room, region_room, spot_at, free_of, shelved, trimmed}
 use Rattle.plain_lists.proofs.Beside.{fresh_good}
 use Rattle.plain_lists.proofs.Calls.{whole_good}
-use Rattle.plain_lists.proofs.Members.{Contains-none, Contains-single}
+use Rattle.list_laws.proofs.Members.{Contains-none, Contains-single}
 use Rattle.plain_runs.specs.Steps.{fixed_terms, one_region, at_offset, steps_of, room_steps, block_steps, region_steps, room_index, block_index, region_index, malloc_steps_of, free_step, free_steps, shelf_steps, still_step, trim_steps, puts_steps}
 use Rattle.plain_runs.specs.Journal.{events_to, requests_in, answers_in, end_of}
 use Rattle.part_model.specs.Totals.{totals_of}

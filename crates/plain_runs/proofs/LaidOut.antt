@@ -1,12 +1,13 @@
 -- What the lists say of the layout.
-use Rattle.std.proofs.Common.{◌≡◌, ℕ, ◌+◌, ◌<◌, Bool, true, false, List, [], ◌∷◌, length, refl, sym, ◌∙◌, ap, arith, inl, inr, filter, nat_lt}
+use Rattle.std.proofs.Common.{◌≡◌, ℕ, ◌+◌, ◌<◌, Bool, true, false, List, ◌∷◌, refl, sym, ◌∙◌, ap, arith, inl, inr, nat_lt}
 use Rattle.std.specs.Prelude.{if◌then◌else◌, Contains, ◌==◌, is_some}
 use Rattle.std.specs.declared.option.Option.{Option}
 use Rattle.std.proofs.lemmas.Bool.{cases_Bool, cases_lt, and_parts, ltb-true, eq-eqb}
+use Rattle.list_laws.proofs.Counts.{count-exists}
 use Rattle.machine.specs.States.{State}
 use Rattle.plain_lists.specs.Lists.{OwnSlab, Block, Lists, lies_on, begun, changed}
 use Rattle.plain_lists.specs.Good.{AreGood, has_granule, slabs_on, stored_on, blocks_on}
-use Rattle.plain_lists.proofs.Members.{Contains-first, Contains-cons, Contains-filter, Contains-map}
+use Rattle.list_laws.proofs.Members.{Contains-cons, Contains-map}
 use Rattle.plain_runs.proofs.Layouts.{Use, Away, InBin, InHand, InCache, OfSlab, Layout, laid, Knows}
 use Rattle.plain_runs.proofs.Moves.{laid-inside, laid-other, plain_no_slab}
 use Rattle.plain_runs.proofs.ObjectSteps.{same_slab, with_objects}
@@ -25,17 +26,6 @@ pub record Holds (state : State) (lists : Lists) : Type 0 where
   pub lays : Lays lists layout
   pub good : AreGood lists
 
--- a list that counts some has one
-pub counted_member : {X : Type 0} (p : X → Bool) (xs : List X) → 0 < length (filter p xs) → (x : X) × Contains xs x × (p x ≡ true)
-counted_member {X} p xs some =
-    let found = first_of (filter p xs) some in
-    let both = Contains-filter p xs found.0 found.1 in
-    (found.0, both.0, both.1)
-  where
-    first_of : (ys : List X) → 0 < length ys → (y : X) × Contains ys y
-    first_of [] none = absurd (omega arith)
-    first_of (y ∷ ys) more = (y, Contains-first y ys)
-
 -- what a granule is used for
 pub data UseOf (lists : Lists) (layout : Layout) (g : ℕ) : Type 0 where
   none_has : layout g ≡ Away → UseOf lists layout g
@@ -49,10 +39,10 @@ use_of lists layout good lays g = elim (cases_Bool (has_granule lists.region g))
   | inl on ↦
       let one : slabs_on g lists.slabs + (stored_on g lists.stored + blocks_on g lists.blocks) ≡ 1 = good.once g ∙ ap (λ (b : Bool). if b then 1 else 0) on in
       elim (cases_lt 0 (slabs_on g lists.slabs)) [
-        | inl some ↦ let m = counted_member (λ slab. lies_on slab.index 2 g) lists.slabs some in slab_has m.0 m.1 m.2 (lays.slabs_are m.0 m.1 g m.2)
+        | inl some ↦ let m = count-exists (λ slab. lies_on slab.index 2 g) lists.slabs some in slab_has m.0 m.1 m.2 (lays.slabs_are m.0 m.1 g m.2)
         | inr none ↦ elim (cases_lt 0 (stored_on g lists.stored)) [
-          | inl some ↦ let m = counted_member (λ index. lies_on index 2 g) lists.stored some in stored_has m.0 m.1 m.2 (lays.stored_are m.0 m.1 g m.2)
-          | inr none' ↦ let m = counted_member (λ block. lies_on block.first block.granules g) lists.blocks (omega arith) in block_has m.0 m.1 m.2 (lays.blocks_are m.0 m.1 g m.2)
+          | inl some ↦ let m = count-exists (λ index. lies_on index 2 g) lists.stored some in stored_has m.0 m.1 m.2 (lays.stored_are m.0 m.1 g m.2)
+          | inr none' ↦ let m = count-exists (λ block. lies_on block.first block.granules g) lists.blocks (omega arith) in block_has m.0 m.1 m.2 (lays.blocks_are m.0 m.1 g m.2)
         ]
       ]
 ]

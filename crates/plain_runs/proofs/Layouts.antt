@@ -11,9 +11,9 @@ use Rattle.part_model.specs.declared.holders.Holder.{Holder}
 use Rattle.part_model.specs.declared.holders.Holder.TheVariants.{Head, Rest, Private, Object, SlabCache, Bin, Hand}
 use Rattle.part_model.specs.Holding.{Holding, same_region}
 use Rattle.size_classes.specs.Classes.{class_size, class_objects}
-use Rattle.size_classes.proofs.Sizes.{class_objects-fit, class_size-least}
+use Rattle.size_classes.proofs.CallerLemmas.{class_objects-fit, class_size-least}
+use Rattle.size_classes.specs.Layout.{head_bytes}
 use Rattle.machine.specs.States.{State, Slab}
-use Rattle.machine.specs.Ranges.{head_bytes}
 use Rattle.plain_lists.specs.Lists.{OwnSlab, lies_on}
 use Rattle.plain_lists.specs.Whole.{grant_of}
 use Rattle.plain_runs.specs.Steps.{at_offset, slab_of, one_region}

@@ -12,18 +12,15 @@ use Rattle.pool_types.specs.declared.rows.Keeper.TheVariants.{Seat, Orphan, Hand
 use Rattle.part_model.specs.declared.holders.Holder.{Holder}
 use Rattle.part_model.specs.declared.holders.Holder.TheVariants.{Head, Rest, Private, Public, Object, SlabCache, Cached, Bin, Queue}
 use Rattle.part_model.specs.Holding.{same_region}
-use Rattle.size_classes.specs.Classes.{class_size, class_objects, first_class}
-use Rattle.size_classes.proofs.Sizes.{class_size-least}
-use Rattle.size_classes.proofs.Positions.{first_class-found}
-use Rattle.slab_core.proofs.Places.{object_offset-eights, object_offset-sixteens}
-use Rattle.slab_core.specs.Layout.{object_offset}
+use Rattle.size_classes.specs.Classes.{class_size, class_objects, class_of}
+use Rattle.size_classes.proofs.CallerLemmas.{class_size-least, class_of-found, object_offset-eights, object_offset-sixteens}
+use Rattle.size_classes.specs.Layout.{head_bytes}
 use Rattle.machine.specs.States.{State, Slab}
-use Rattle.machine.specs.Ranges.{head_bytes}
 use Rattle.machine.specs.Lawful.{IsKept}
 use Rattle.machine.specs.Suits.{Suits}
 use Rattle.machine.specs.Looks.{NoneWaits}
 use Rattle.machine.specs.Answers.{NoneIsKept}
-use Rattle.machine.proofs.Mallocs.{plain_aligned, enough_usable}
+use Rattle.machine.proofs.CallerLemmas.{plain_aligned, enough_usable}
 use Rattle.plain_lists.specs.Lists.{OwnSlab, Lists}
 use Rattle.plain_lists.specs.Whole.{place_at}
 use Rattle.plain_runs.specs.Steps.{fixed_terms, one_region, at_offset}
@@ -103,11 +100,10 @@ unfolding class_size
 class_size-first = refl
 
 -- an object suits each size of its class
-pub object_suits : (state : State) (size class index object : ℕ) → state.regions ≡ one_region ∷ [] → index + 2 ≤ 128 → first_class size ≡ Some class → size ≤ 8128 → object < class_objects class →
+pub object_suits : (state : State) (size class index object : ℕ) → state.regions ≡ one_region ∷ [] → index + 2 ≤ 128 → class_of size ≡ Some class → size ≤ 8128 → object < class_objects class →
     Suits fixed_terms.limits state (Malloc size) (place_at index class object) (class_size class)
-unfolding object_offset
 object_suits state size class index object is few found small free =
-    let first = first_class-found size class found in
+    let first = class_of-found size class found in
     let fits : (object + 1) * class_size class ≤ 16256 = some_bytes class (object + 1) (omega arith) in
     let more : (object + 1) * class_size class ≡ object * class_size class + class_size class = one_more object class in
     record {

@@ -16,7 +16,6 @@ pub mod LookRuns
 pub mod PutSteps
 pub mod FreeRuns
 pub mod HeldLeaks
-pub mod SumLemmas
 pub mod ByteCounts
 pub mod HeldTotals
 pub mod Journals

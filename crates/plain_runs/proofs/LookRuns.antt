@@ -15,8 +15,7 @@ use Rattle.machine.specs.States.{State}
 use Rattle.machine.specs.Journal.{Entry, Nothing_seen}
 use Rattle.machine.specs.Lawful.{nothing_moves}
 use Rattle.machine.specs.Answers.{Call, Moment, AtStep, BeginsAt, IsObject, IsUnit, IsFound, IsAnswerTo}
-use Rattle.machine.proofs.Mallocs.{nothing_moved}
-use Rattle.machine.proofs.Moving.{none_whole, none_apart}
+use Rattle.machine.proofs.CallerLemmas.{nothing_moved, none_whole, none_apart}
 use Rattle.plain_lists.specs.Lists.{Lists}
 use Rattle.plain_lists.specs.Whole.{Spot, grant_of, spot_at, is_unit, missing, msize_of, identify_of}
 use Rattle.plain_lists.proofs.Spots.{spot_at-Some}

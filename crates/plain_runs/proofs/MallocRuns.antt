@@ -14,22 +14,22 @@ use Rattle.part_model.specs.declared.holders.Holder.{Holder}
 use Rattle.part_model.specs.declared.holders.Holder.TheVariants.{Rest, Private, SlabCache, Bin, Hand}
 use Rattle.part_model.specs.Holding.{same_region, lies_in}
 use Rattle.size_classes.specs.declared.Served.TheVariants.{Small}
-use Rattle.size_classes.specs.Classes.{class_objects, first_class}
-use Rattle.size_classes.proofs.Sizes.{class_objects-least}
-use Rattle.size_classes.proofs.Positions.{first_class-found, first_class-some}
-use Rattle.size_classes.proofs.Serving.{served_plain_at-small}
+use Rattle.size_classes.specs.Classes.{class_objects, class_of}
+use Rattle.size_classes.proofs.CallerLemmas.{class_objects-least, class_of-found, class_of-some, served_plain-small}
+use Rattle.size_classes.specs.Layout.{head_bytes}
 use Rattle.machine.specs.States.{State, Slab}
-use Rattle.machine.specs.Ranges.{slab_range, head_bytes}
-use Rattle.machine.specs.Journal.{Entry, Bins_seen, after_entry, after}
+use Rattle.machine.specs.Ranges.{slab_range}
+use Rattle.machine.specs.Journal.{Entry, Bins_seen, after_entry, after_entries}
 use Rattle.machine.specs.Lawful.{nothing_moves, IsKeptOf}
 use Rattle.machine.specs.Looks.{NoneFree}
-use Rattle.machine.proofs.Moving.{none_whole, none_apart}
-use Rattle.part_model.proofs.Ranges.{lies_in-parts}
+use Rattle.machine.proofs.CallerLemmas.{none_whole, none_apart}
+use Rattle.part_model.proofs.CallerLemmas.{lies_in-parts}
 use Rattle.plain_lists.specs.Lists.{OwnSlab, Block, Lists, first_region, whole_block, lies_on, given, begun, changed, has_free}
 use Rattle.plain_lists.specs.Backend.{first_fit, even_from, rests, after_cut}
 use Rattle.plain_lists.specs.Whole.{Room, whole, gives, begins, begins_in, malloc_from, malloc_of, class_at, newest, room_in, stored_room, block_room, region_room, no_fit}
 use Rattle.plain_lists.specs.Good.{AreGood, IsGoodSlab, times}
-use Rattle.plain_lists.proofs.Members.{find-Some, find-None, Contains-none}
+use Rattle.list_laws.proofs.Finds.{find-Some, find-None}
+use Rattle.list_laws.proofs.Members.{Contains-none}
 use Rattle.plain_lists.proofs.Slabs.{given_good}
 use Rattle.plain_lists.proofs.Calls.{given-class, has_free-parts}
 use Rattle.plain_lists.proofs.Fits.{first_fit-None}
@@ -39,7 +39,7 @@ use Rattle.plain_runs.proofs.Moves.{granules_range, laid-inside, plain_no_slab, 
 use Rattle.plain_runs.proofs.ObjectSteps.{on_slab, held_by-in, held_by-out, same_slab}
 use Rattle.plain_runs.proofs.SlabSteps.{slab_begun}
 use Rattle.plain_runs.proofs.EndSteps.{slab_byte}
-use Rattle.plain_runs.proofs.Courses.{moment, AreQuiet, quiet_append, after-append, CallRuns, call_runs, quiet_leads}
+use Rattle.plain_runs.proofs.Courses.{moment, AreQuiet, quiet_append, after_entries-append, CallRuns, call_runs, quiet_leads}
 use Rattle.plain_runs.proofs.LaidOut.{Lays, Holds, UseOf, none_has, slab_has, stored_has, block_has, use_of, lays_changed, lays_begun}
 use Rattle.plain_runs.proofs.GrantSteps.{given_form, GivesNext, good_gives, object_granted}
 use Rattle.plain_runs.proofs.Legal.{never, none_kept, none_waits, none_in_hand}
@@ -102,13 +102,13 @@ pub run_begins : (state : State) (lists : Lists) (size class : ℕ) (entries : L
     AreGood (begins room.lists class room.index).lists →
     WholeRuns state (Malloc size) (entries ++ begin_step room.index class ∷ grant_step (begun room.index class) (room.lists.granted + 1) ∷ []) (begins room.lists class room.index).lists
 run_begins state lists size class entries room asked exists ready good =
-    let begin = slab_begun (after state entries) ready.layout ready.region room.lists.granted room.index class exists ready.even ready.inside ready.hand ready.knows in
+    let begin = slab_begun (after_entries state entries) ready.layout ready.region room.lists.granted room.index class exists ready.even ready.inside ready.hand ready.knows in
     let two : 2 ≤ class_objects class = class_objects-least class exists in
     let on : lies_on room.index 2 room.index ≡ true = on_slab room.index room.index (omega arith) (omega arith) in
     let whole : (g : ℕ) → lies_on room.index 2 g ≡ true → layout g ≡ OfSlab slab = λ g on. laid-inside ready.layout room.index 2 (OfSlab (begun room.index class)) g on in
     let laid_slab : IsLaid layout slab = (begin.knows.slabs_are room.index slab (whole room.index on)).0 in
     let granted = object_granted begun_state layout (Some ready.region) room.lists.granted slab laid_slab (begun_gives room.index class (room.lists.granted + 1) exists) (omega arith) begin.knows in
-    let after_is : after state (entries ++ begin_step room.index class ∷ []) ≡ begun_state = after-append state entries (begin_step room.index class ∷ []) in
+    let after_is : after_entries state (entries ++ begin_step room.index class ∷ []) ≡ begun_state = after_entries-append state entries (begin_step room.index class ∷ []) in
     let quiet : AreQuiet state (entries ++ begin_step room.index class ∷ []) = quiet_append state entries (begin_step room.index class ∷ []) ready.quiet (begin.step, tt) in
     let holds : Holds (after_entry begun_state (grant_step slab (room.lists.granted + 1))) (begins room.lists class room.index).lists = record {
       layout = laid layout room.index 2 (OfSlab (given slab (room.lists.granted + 1)));
@@ -135,7 +135,7 @@ run_begins state lists size class entries room asked exists ready good =
     layout = laid ready.layout room.index 2 (OfSlab (begun room.index class))
 
     begun_state : State
-    begun_state = after_entry (after state entries) (begin_step room.index class)
+    begun_state = after_entry (after_entries state entries) (begin_step room.index class)
 
 -- a slab of the book is one of the lists
 pub record IsOwn (lists : Lists) (layout : Layout) (slab : Slab) : Type 0 where
@@ -296,7 +296,7 @@ run_refused state lists size class region asked none no_stored no_block there =
                   joined = λ apart one other member. absurd (omega (arith, member.1));
                   blocks = λ block member. absurd (omega (arith, member.1));
                 },
-                (Small class, served_plain_at-small size class asked.found, (none_free state lists class asked.holds none stored, λ alone. none_waits state lists class asked.holds)),
+                (Small class, served_plain-small size class asked.found, (none_free state lists class asked.holds none stored, λ alone. none_waits state lists class asked.holds)),
               ),
               record {
                 answers = (
@@ -310,7 +310,7 @@ run_refused state lists size class region asked none no_stored no_block there =
                       later = moment state look_step ∷ [];
                       steps = refl;
                       still = refl;
-                      is = served_plain_at-small size class asked.found;
+                      is = served_plain-small size class asked.found;
                       vain = (refl, lit≤ tt, (λ block member fits. omega (arith, member.1)), (0, (refl, refl), refl));
                     };
                     found = (refl, (omega (arith, next), tt), refl, refl, refl);
@@ -365,12 +365,12 @@ run_malloc state lists size class asked good = go (find (has_free class) lists.s
     go : (slab : Option OwnSlab) → find (has_free class) lists.slabs ≡ slab → AreGood (malloc_from lists class slab).lists →
         WholeRuns state (Malloc size) (malloc_steps_of lists class slab (room_index lists (newest lists.stored))) (malloc_from lists class slab).lists
     go (Some slab) is good = run_gives state lists size class slab asked is good
-    go None is good = run_room state lists size class asked (first_class-found size class asked.found).exists is good
+    go None is good = run_room state lists size class asked (class_of-found size class asked.found).exists is good
 
 -- a whole malloc
 pub malloc_runs : (state : State) (lists : Lists) (size : ℕ) → size ≤ 8128 → lists.granted < 2 ^ 55 - 1 → Holds state lists → AreGood (whole lists (Malloc size)).lists →
     WholeRuns state (Malloc size) (steps_of lists (Malloc size)) (whole lists (Malloc size)).lists
 malloc_runs state lists size small room holds good =
-    let found = first_class-some size small in
-    let is : first_class size ≡ Some (class_at size) = found.1 ∙ ap Some (sym (ap (λ (o : Option ℕ). unwrap_or o 0) found.1)) in
+    let found = class_of-some size small in
+    let is : class_of size ≡ Some (class_at size) = found.1 ∙ ap Some (sym (ap (λ (o : Option ℕ). unwrap_or o 0) found.1)) in
     run_malloc state lists size (class_at size) (record { small = small; found = is; room = room; holds = holds }) good

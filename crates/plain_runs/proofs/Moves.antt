@@ -14,8 +14,7 @@ use Rattle.part_model.specs.declared.moves.Range.{Range}
 use Rattle.part_model.specs.declared.moves.Part.{Part}
 use Rattle.part_model.specs.Holding.{same_region, lies_in, after_part, after_parts, AreWhole, AreApart, CanMoveAll}
 use Rattle.part_model.specs.Totals.{has_holder}
-use Rattle.part_model.proofs.Changes.{after_parts-at}
-use Rattle.part_model.proofs.Ranges.{lies_in-parts}
+use Rattle.part_model.proofs.CallerLemmas.{after_parts-at, lies_in-parts}
 use Rattle.machine.specs.States.{State}
 use Rattle.machine.specs.Ranges.{Each, part_of, range_at}
 use Rattle.machine.specs.Journal.{Sight, BookChange, is_object, after_entry, goes}

@@ -12,12 +12,12 @@ use Rattle.part_model.specs.declared.moves.Range.{Range}
 use Rattle.part_model.specs.declared.moves.Part.{Part}
 use Rattle.part_model.specs.Holding.{same_region, lies_in, after_part, after_parts, IsWhole}
 use Rattle.part_model.specs.Totals.{has_holder}
-use Rattle.part_model.proofs.Changes.{after_parts-at, after_part-inside, after_part-outside}
-use Rattle.part_model.proofs.Ranges.{lies_in-parts, lies_in-is}
+use Rattle.part_model.proofs.CallerLemmas.{after_parts-at, after_part-inside, after_part-outside, lies_in-parts, lies_in-is}
 use Rattle.size_classes.specs.Classes.{class_size, class_objects}
-use Rattle.size_classes.proofs.Sizes.{class_size-least}
+use Rattle.size_classes.proofs.CallerLemmas.{class_size-least}
+use Rattle.size_classes.specs.Layout.{head_bytes}
 use Rattle.machine.specs.States.{State, Slab}
-use Rattle.machine.specs.Ranges.{part_of, object_range, head_bytes}
+use Rattle.machine.specs.Ranges.{part_of, object_range}
 use Rattle.machine.specs.Journal.{Nothing_seen, after_entry, last_after, goes}
 use Rattle.plain_lists.specs.Lists.{OwnSlab, lies_on}
 use Rattle.plain_lists.proofs.Granules.{lies_on-parts}

@@ -11,17 +11,16 @@ use Rattle.pool_types.specs.declared.policy.RegionRec.{RegionRec}
 use Rattle.part_model.specs.declared.holders.Holder.{Holder}
 use Rattle.part_model.specs.declared.holders.Holder.TheVariants.{Head, Object, SlabCache, Bin}
 use Rattle.part_model.specs.Holding.{same_region, lies_in}
-use Rattle.part_model.proofs.Ranges.{lies_in-is, lies_in-parts, same_region-parts, same_region-is}
+use Rattle.part_model.proofs.CallerLemmas.{lies_in-is, lies_in-parts, same_region-parts, same_region-is}
 use Rattle.size_classes.specs.Classes.{class_size, class_objects}
-use Rattle.size_classes.proofs.Sizes.{class_size-least}
-use Rattle.slab_core.specs.Layout.{object_offset}
+use Rattle.size_classes.proofs.CallerLemmas.{class_size-least}
+use Rattle.size_classes.specs.Layout.{head_bytes}
 use Rattle.machine.specs.States.{State}
-use Rattle.machine.specs.Ranges.{head_bytes}
 use Rattle.machine.specs.Answers.{BeginsAt, IsObject, IsUnit}
 use Rattle.plain_lists.specs.Lists.{OwnSlab, Lists, lies_on}
 use Rattle.plain_lists.specs.Whole.{Spot, grant_of, place_at, spot_at, is_unit}
 use Rattle.plain_lists.specs.Good.{IsHeld}
-use Rattle.plain_lists.proofs.Members.{Contains-none, Contains-single}
+use Rattle.list_laws.proofs.Members.{Contains-none, Contains-single}
 use Rattle.plain_lists.proofs.Beside.{beside_none}
 use Rattle.plain_lists.proofs.ObjectPlaces.{held_found}
 use Rattle.plain_lists.proofs.Granules.{lies_on-parts}
@@ -122,7 +121,6 @@ same_object state lists holds slab object number member held byte is =
 -- an object that is held begins at its place, and has its bytes and no others
 pub object_is : (state : State) (lists : Lists) (holds : Holds state lists) (slab : OwnSlab) (object number : ℕ) → Contains lists.slabs slab → IsHeld slab object number →
     IsObject state (place_at slab.index slab.class object) (class_size slab.class) (grant_of number)
-unfolding object_offset
 object_is state lists holds slab object number member held =
     let exists = held_exists state lists holds slab object number member held in
     let least = class_size-least slab.class (holds.good.slabs_are slab member).class_is in
@@ -140,7 +138,6 @@ object_is state lists holds slab object number member held =
 
 -- where an object begins, one is found
 pub begins_found : (state : State) (lists : Lists) (holds : Holds state lists) (place : Place) (grant : Grant) → BeginsAt state place grant → spot_at lists place ≡ None → ⊥
-unfolding object_offset
 begins_found state lists holds place grant begins none =
     let found = grant_byte state lists holds place grant begins.held in
     let start : Place = place_at found.slab.index found.slab.class found.object in

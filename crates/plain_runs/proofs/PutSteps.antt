@@ -7,11 +7,13 @@ use Rattle.pool_types.specs.declared.values.Region.{Region}
 use Rattle.part_model.specs.declared.holders.Holder.TheVariants.{Bin, Hand}
 use Rattle.machine.specs.States.{State}
 use Rattle.machine.specs.Ranges.{Each}
-use Rattle.machine.specs.Journal.{Entry, after_entry, after}
-use Rattle.machine.proofs.Shapes.{each-append}
+use Rattle.machine.specs.Journal.{Entry, after_entry, after_entries}
+use Rattle.machine.proofs.CallerLemmas.{each-append}
 use Rattle.plain_lists.specs.Lists.{Block, Lists, lies_on}
 use Rattle.plain_lists.specs.Backend.{meets, joined, block_before, block_behind, joined_first, granules_in, after_put, after_puts, slab_block}
-use Rattle.plain_lists.proofs.Members.{Contains-first, Contains-other, Contains-cons, Contains-none, Contains-append, Contains-of_left, Contains-of_right, Contains-single, find-Some}
+use Rattle.list_laws.proofs.Members.{Contains-first, Contains-other, Contains-cons, Contains-none, Contains-single}
+use Rattle.std.proofs.lemmas.List.Elements.{Contains-append_cases, Contains-append_left, Contains-append_right}
+use Rattle.list_laws.proofs.Finds.{find-Some}
 use Rattle.plain_lists.proofs.Granules.{lies_on-true, lies_on-parts}
 use Rattle.plain_lists.proofs.Beside.{AreGoodBeside}
 use Rattle.plain_lists.proofs.Joined.{before_meets, Contains-after_put}
@@ -22,7 +24,7 @@ use Rattle.plain_runs.proofs.Layouts.{Use, Away, InBin, InHand, InCache, OfSlab,
 use Rattle.plain_runs.proofs.Moves.{laid-inside, laid-outside, laid-other, plain_no_slab}
 use Rattle.plain_runs.proofs.GranuleSteps.{IsAll, IsRegionBlock, IsRow, laid_all, bins_step, put_step, unshelf_step}
 use Rattle.plain_runs.proofs.ObjectSteps.{on_slab}
-use Rattle.plain_runs.proofs.Courses.{AreQuiet, quiet_append, after-append}
+use Rattle.plain_runs.proofs.Courses.{AreQuiet, quiet_append, after_entries-append}
 use Rattle.plain_runs.proofs.LaidOut.{Lays}
 use Rattle.plain_runs.proofs.RoomSteps.{stored_apart}
 
@@ -116,7 +118,7 @@ pub joined_has : (index : ℕ) (lists : Lists) (one : Block) (g : ℕ) → Conta
 joined_has index lists one g member on =
     let starts = joined_bounds index lists in
     let bounds = lies_on-parts one.first one.granules g on in
-    elim (Contains-append (listed (block_before (slab_block index) lists.blocks)) (listed (block_behind (slab_block index) lists.blocks)) one member) [
+    elim (Contains-append_cases (listed (block_before (slab_block index) lists.blocks)) (listed (block_behind (slab_block index) lists.blocks)) one member) [
       | inl before ↦
           let is = listed_is (block_before (slab_block index) lists.blocks) one before in
           let meet = ((neighbours index lists).before_is one is).1 in
@@ -147,7 +149,7 @@ neighbours_laid index rooms lists layout good lays = record {
   all = each-append (IsAll layout InBin) (listed (block_before (slab_block index) lists.blocks)) (listed (block_behind (slab_block index) lists.blocks))
       (each_listed (IsAll layout InBin) (block_before (slab_block index) lists.blocks) (λ one is. lays.blocks_are one (near.before_is one is).0))
       (each_listed (IsAll layout InBin) (block_behind (slab_block index) lists.blocks) (λ one is. lays.blocks_are one (near.behind_is one is).0));
-  members = λ one member. elim (Contains-append (listed (block_before (slab_block index) lists.blocks)) (listed (block_behind (slab_block index) lists.blocks)) one member) [
+  members = λ one member. elim (Contains-append_cases (listed (block_before (slab_block index) lists.blocks)) (listed (block_behind (slab_block index) lists.blocks)) one member) [
     | inl before ↦ (near.before_is one (listed_is (block_before (slab_block index) lists.blocks) one before)).0
     | inr behind ↦ (near.behind_is one (listed_is (block_behind (slab_block index) lists.blocks) one behind)).0
   ];
@@ -163,7 +165,7 @@ neighbours_laid index rooms lists layout good lays = record {
 pub record IsPut (state : State) (lists : Lists) (region : Region) (entries : List Entry) : Type 0 where
   pub layout : Layout
   pub quiet : AreQuiet state entries
-  pub knows : Knows (after state entries) layout (Some region) lists.granted
+  pub knows : Knows (after_entries state entries) layout (Some region) lists.granted
   pub lays : Lays lists layout
 
 -- room in hand is put into bins
@@ -204,9 +206,9 @@ room_put index state lists layout region good lays hand knows =
     taken = laid_all layout (listed (block_before (slab_block index) lists.blocks) ++ listed (block_behind (slab_block index) lists.blocks)) InHand
 
     in_hand : (g : ℕ) → InJoined index lists g → taken g ≡ InHand
-    in_hand g (in_before one is on) = laid_all-inside layout blocks InHand g one (Contains-of_left (listed (block_before (slab_block index) lists.blocks)) (listed (block_behind (slab_block index) lists.blocks)) one (subst (λ b. Contains (listed b) one) (sym is) (Contains-first one []))) on
+    in_hand g (in_before one is on) = laid_all-inside layout blocks InHand g one (Contains-append_left (listed (block_before (slab_block index) lists.blocks)) (listed (block_behind (slab_block index) lists.blocks)) one (subst (λ b. Contains (listed b) one) (sym is) (Contains-first one []))) on
     in_hand g (in_slab on) = laid_all-keep layout blocks InHand g (hand g on)
-    in_hand g (in_behind one is on) = laid_all-inside layout blocks InHand g one (Contains-of_right (listed (block_before (slab_block index) lists.blocks)) (listed (block_behind (slab_block index) lists.blocks)) one (subst (λ b. Contains (listed b) one) (sym is) (Contains-first one []))) on
+    in_hand g (in_behind one is on) = laid_all-inside layout blocks InHand g one (Contains-append_right (listed (block_before (slab_block index) lists.blocks)) (listed (block_behind (slab_block index) lists.blocks)) one (subst (λ b. Contains (listed b) one) (sym is) (Contains-first one []))) on
 
     all_in_hand : IsAll taken InHand whole
     all_in_hand g on = in_hand g (in_joined index lists g on)
@@ -255,12 +257,12 @@ slabs_put (index ∷ indices) kept state base blocks layout region good lays kno
       away = λ g off. laid-other layout index 2 InCache InHand Away g all (lays.away g off) (λ same. let e = same in cc);
     } in
     let put = room_put index (after_entry state (fetch_step index)) (record base { stored = indices ++ kept; blocks = blocks }) (laid layout index 2 InHand) region beside fetched_lays (λ g on. laid-inside layout index 2 InHand g on) fetched.knows in
-    let next_state : State = after (after_entry state (fetch_step index)) (put_steps (slab_block index) blocks) in
-    let later = slabs_put indices kept (after (after_entry state (fetch_step index)) (put_steps (slab_block index) blocks)) base (after_put (slab_block index) blocks) put.layout region
+    let next_state : State = after_entries (after_entry state (fetch_step index)) (put_steps (slab_block index) blocks) in
+    let later = slabs_put indices kept (after_entries (after_entry state (fetch_step index)) (put_steps (slab_block index) blocks)) base (after_put (slab_block index) blocks) put.layout region
     (oldest_put index (indices ++ kept) [] (record base { stored = index ∷ indices ++ kept; blocks = blocks }) good) put.lays put.knows in
     record {
       layout = later.layout;
       quiet = (fetched.step, quiet_append (after_entry state (fetch_step index)) (put_steps (slab_block index) blocks) (puts_steps indices (after_put (slab_block index) blocks)) put.quiet later.quiet);
-      knows = subst (λ s. Knows s later.layout (Some region) base.granted) (sym (after-append (after_entry state (fetch_step index)) (put_steps (slab_block index) blocks) (puts_steps indices (after_put (slab_block index) blocks)))) later.knows;
+      knows = subst (λ s. Knows s later.layout (Some region) base.granted) (sym (after_entries-append (after_entry state (fetch_step index)) (put_steps (slab_block index) blocks) (puts_steps indices (after_put (slab_block index) blocks)))) later.knows;
       lays = later.lays;
     }

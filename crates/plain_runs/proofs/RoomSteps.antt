@@ -6,13 +6,14 @@ use Rattle.std.proofs.lemmas.Bool.{and_parts, ltb-false, false_from_ne_true}
 use Rattle.pool_types.specs.declared.values.Region.{Region}
 use Rattle.part_model.specs.declared.holders.Holder.TheVariants.{Bin, Hand}
 use Rattle.machine.specs.States.{State}
-use Rattle.machine.specs.Journal.{Entry, after_entry, after}
+use Rattle.machine.specs.Journal.{Entry, after_entry, after_entries}
 use Rattle.plain_lists.specs.Lists.{Block, Lists, lies_on, first_region, whole_block}
 use Rattle.plain_lists.specs.Backend.{first_fit, even_from, rests, after_cut, slab_block}
 use Rattle.plain_lists.specs.Whole.{Room, newest}
 use Rattle.plain_lists.specs.Good.{IsGoodBlock, has_granule}
-use Rattle.plain_lists.proofs.Members.{Contains-first, Contains-drop, Contains-take, Contains-append, Contains-single}
-use Rattle.plain_lists.proofs.Counting.{count-some}
+use Rattle.list_laws.proofs.Members.{Contains-first, Contains-drop, Contains-take, Contains-single}
+use Rattle.std.proofs.lemmas.List.Elements.{Contains-append_cases}
+use Rattle.list_laws.proofs.Counts.{count-some}
 use Rattle.plain_lists.proofs.Beside.{AreGoodBeside, beside_none, at_most_once}
 use Rattle.plain_lists.proofs.Blocks.{two_at_least, Contains-after_cut}
 use Rattle.plain_lists.proofs.BlockChanges.{left_block, block_cut}
@@ -34,7 +35,7 @@ pub record IsReady (state : State) (lists : Lists) (entries : List Entry) (room 
   pub layout : Layout
   pub region : Region
   pub region_is : room.lists.region ≡ Some region
-  pub knows : Knows (after state entries) layout (Some region) room.lists.granted
+  pub knows : Knows (after_entries state entries) layout (Some region) room.lists.granted
   pub lays : Lays room.lists layout
   pub hand : (g : ℕ) → lies_on room.index 2 g ≡ true → layout g ≡ InHand
   pub even : room.index % 2 ≡ 0
@@ -171,7 +172,7 @@ region_room_ready state lists holds none =
       lays = record {
         slabs_are = λ slab listed g on. absurd (plain_no_slab Away slab refl (sym (away slab.index) ∙ holds.lays.slabs_are slab listed slab.index (on_slab slab.index slab.index (omega arith) (omega arith))));
         stored_are = λ other listed g on. absurd (let clash : Away ≡ InCache = sym (away g) ∙ holds.lays.stored_are other listed g on in cc);
-        blocks_are = λ block listed g on. elim (Contains-append (left_block ∷ []) lists.blocks block listed) [
+        blocks_are = λ block listed g on. elim (Contains-append_cases (left_block ∷ []) lists.blocks block listed) [
           | inl here ↦ laid-inside (laid holds.layout 0 128 InHand) 2 126 InBin g (ap (λ (b : Block). lies_on b.first b.granules g) (Contains-single left_block block here) ∙ on)
           | inr old ↦ absurd (let clash : Away ≡ InBin = sym (away g) ∙ holds.lays.blocks_are block old g on in cc)
         ];

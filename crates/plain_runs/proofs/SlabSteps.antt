@@ -13,18 +13,16 @@ use Rattle.part_model.specs.declared.holders.Holder.TheVariants.{Head, Rest, Pri
 use Rattle.part_model.specs.declared.moves.Range.{Range}
 use Rattle.part_model.specs.declared.moves.Part.{Part}
 use Rattle.part_model.specs.Holding.{Holding, same_region, lies_in, after_part, after_parts, IsApart, AreApart, IsWhole, CanMove, CanMoveAll}
-use Rattle.part_model.proofs.Changes.{lies_in_any, after_parts-at, after_part-inside, after_part-outside}
-use Rattle.part_model.proofs.Ranges.{lies_in-parts, lies_in-is, lies_in-not}
+use Rattle.part_model.proofs.CallerLemmas.{lies_in_any, after_parts-at, after_part-inside, after_part-outside, lies_in-parts, lies_in-is, lies_in-not}
 use Rattle.size_classes.specs.Classes.{class_size, class_objects}
-use Rattle.size_classes.proofs.Sizes.{class_objects-fit, class_objects-least, class_size-least}
+use Rattle.size_classes.proofs.CallerLemmas.{class_objects-fit, class_objects-least, class_size-least}
+use Rattle.size_classes.specs.Layout.{head_bytes}
 use Rattle.machine.specs.States.{State}
-use Rattle.machine.specs.Ranges.{Each, part_of, head_range, objects_range, head_bytes, lies_in_parts}
+use Rattle.machine.specs.Ranges.{Each, part_of, head_range, objects_range, lies_in_parts}
 use Rattle.machine.specs.Regions.{some_part}
 use Rattle.machine.specs.Journal.{Enters}
 use Rattle.machine.specs.Lawful.{slab_begins}
-use Rattle.machine.proofs.Shapes.{each-append, each-some_part}
-use Rattle.machine.proofs.Moving.{two_apart, two_whole, lies_within}
-use Rattle.machine.proofs.Covers.{lies_in_any-some_part, lies_in_any-append}
+use Rattle.machine.proofs.CallerLemmas.{each-append, each-some_part, two_apart, two_whole, lies_within, lies_in_any-some_part, lies_in_any-append}
 use Rattle.plain_lists.specs.Lists.{OwnSlab, lies_on, begun}
 use Rattle.plain_lists.specs.Backend.{slab_block}
 use Rattle.plain_lists.proofs.Granules.{lies_on-parts}

@@ -14,8 +14,9 @@ use Rattle.part_model.specs.declared.holders.Holder.TheVariants.{Head, Rest, Pri
 use Rattle.part_model.specs.declared.moves.Range.{Range}
 use Rattle.part_model.specs.declared.moves.Part.{Part}
 use Rattle.size_classes.specs.Classes.{class_size, class_objects}
+use Rattle.size_classes.specs.Layout.{head_bytes}
 use Rattle.machine.specs.States.{Terms, Slab}
-use Rattle.machine.specs.Ranges.{part_of, parts_of, range_at, slab_range, head_bytes, head_range, objects_range, object_range}
+use Rattle.machine.specs.Ranges.{part_of, parts_of, range_at, slab_range, head_range, objects_range, object_range}
 use Rattle.machine.specs.Regions.{coming_parts, some_part}
 use Rattle.machine.specs.Journal.{Entry, BookChange, Enters, Leaves, Sight, Nothing_seen, Bins_seen}
 use Rattle.plain_lists.specs.Lists.{OwnSlab, Block, Lists, first_region, whole_block, has_free, next_object, taken_back, is_unused, begun}

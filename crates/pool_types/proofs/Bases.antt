@@ -1,22 +1,23 @@
--- The search for the least free base: each base that it passes over meets a region.
+-- The search for the least free base: each base that it passes over overlaps a region.
 use Rattle.std.proofs.Common.{◌≡◌, ℕ, ◌+◌, ◌-◌, ◌*◌, ◌^◌, ◌<◌, ◌≤◌, Bool, true, false, arith, ap, ◌∙◌, sym, ◌⊎◌, inl, inr, refl, List, [], ◌∷◌, cond}
+use Rattle.std.proofs.Math.Bool.{or-true}
 use Rattle.std.proofs.lemmas.Bool.{cases_lt}
 use Rattle.std.proofs.lemmas.Bool.Decides.{nat_tests}
 use Rattle.std.specs.Prelude.{Option, Some, None, ◌||◌, IfSome, IfNone, length}
 use Rattle.std.specs.List.{find, list_any}
 use Rattle.pool_types.specs.declared.values.Region.{Region}
-use Rattle.pool_types.specs.Regions.{meets, meets_any}
+use Rattle.pool_types.specs.Regions.{overlaps, overlaps_any}
 use Rattle.pool_types.specs.Script.{IsByRule, IsAnswer}
 
 -- so many bytes from the base
 abbrev pub at_base : ℕ → ℕ → Region
 at_base bytes base = record { base = base; bytes = bytes }
 
--- the base is a multiple, and each multiple before it meets a region
+-- the base is a multiple, and each multiple before it overlaps a region
 pub record IsTried (out : List Region) (bytes base : ℕ) : Type 0 where
   pub steps : ℕ
   pub multiple : base ≡ 1048576 * (steps + 1)
-  pub tried : (k : ℕ) → k < steps → meets_any out (at_base bytes (1048576 * (k + 1))) ≡ true
+  pub tried : (k : ℕ) → k < steps → overlaps_any out (at_base bytes (1048576 * (k + 1))) ≡ true
 
 -- what is found passes the test
 pub find-passes : {X : Type 0} (p : X → Bool) (xs : List X) (x : X) → find p xs ≡ Some x → p x ≡ true
@@ -27,10 +28,6 @@ find-passes p (y ∷ ys) x found = at_head p y ys x (p y) refl found (find-passe
     at_head p y ys x true is found rest = let same : y ≡ x = cc in ap p (sym same) ∙ is
     at_head p y ys x false is found rest = rest found
 
-or_true : (b : Bool) → (b || true) ≡ true
-or_true true = refl
-or_true false = refl
-
 -- where the one that is found passes another test too, some element does
 pub find-any : {X : Type 0} (p q : X → Bool) (xs : List X) (x : X) → find p xs ≡ Some x → q x ≡ true → list_any q xs ≡ true
 find-any p q [] x found passes = cc
@@ -38,7 +35,7 @@ find-any p q (y ∷ ys) x found passes = at_head p q y ys x (p y) found passes (
   where
     at_head : {X : Type 0} (p q : X → Bool) (y : X) (ys : List X) (x : X) (b : Bool) → cond b (Some y) (find p ys) ≡ Some x → q x ≡ true → (find p ys ≡ Some x → list_any q ys ≡ true) → (q y || list_any q ys) ≡ true
     at_head p q y ys x true found passes rest = let same : y ≡ x = cc in rw (ap q same ∙ passes) refl
-    at_head p q y ys x false found passes rest = rw (rest found) (or_true (q y))
+    at_head p q y ys x false found passes rest = rw (rest found) (or-true (q y))
 
 -- where none is found, none passes
 pub find-none : {X : Type 0} (p : X → Bool) (xs : List X) → find p xs ≡ None → list_any p xs ≡ false
@@ -54,39 +51,39 @@ pub find-some : {X : Type 0} (p : X → Bool) (xs : List X) (x : X) → find p x
 find-some p xs x found = find-any p p xs x found (find-passes p xs x found)
 
 -- a region that is met from a base is met from each base after it, before the region's end
-pub meets-on : (met : Region) (bytes base later : ℕ) → meets met (at_base bytes base) ≡ true → base ≤ later → later < met.base + met.bytes → meets met (at_base bytes later) ≡ true
-meets-on met bytes base later there after before = grind (arith, nat_tests)
+pub overlaps-on : (met : Region) (bytes base later : ℕ) → overlaps met (at_base bytes base) ≡ true → base ≤ later → later < met.base + met.bytes → overlaps met (at_base bytes later) ≡ true
+overlaps-on met bytes base later there after before = grind (arith, nat_tests)
 
 -- a region that is met from a base ends behind it
-pub meets-behind : (met : Region) (bytes base : ℕ) → meets met (at_base bytes base) ≡ true → base < met.base + met.bytes
-meets-behind met bytes base there = grind (arith, nat_tests)
+pub overlaps-behind : (met : Region) (bytes base : ℕ) → overlaps met (at_base bytes base) ≡ true → base < met.base + met.bytes
+overlaps-behind met bytes base there = grind (arith, nat_tests)
 
 true_is_not_false : false ≡ true → ⊥
 true_is_not_false same = cc
 
 -- the base that the rule gives is free
-free_at : (out : List Region) (bytes : ℕ) (region : Region) (rule : IsByRule out bytes region) → meets_any out (at_base bytes (1048576 * (rule.least.steps + 1))) ≡ false
-free_at out bytes region rule = ap (λ b. meets_any out (at_base bytes b)) (sym rule.least.multiple) ∙ rule.least.free
+free_at : (out : List Region) (bytes : ℕ) (region : Region) (rule : IsByRule out bytes region) → overlaps_any out (at_base bytes (1048576 * (rule.least.steps + 1))) ≡ false
+free_at out bytes region rule = ap (λ b. overlaps_any out (at_base bytes b)) (sym rule.least.multiple) ∙ rule.least.free
 
 -- the multiples up to the end of the region that is met are tried too
-pub tried-past : (out : List Region) (bytes base next steps : ℕ) (met : Region) → IsTried out bytes base → find (λ one. meets one (at_base bytes base)) out ≡ Some met →
+pub tried-past : (out : List Region) (bytes base next steps : ℕ) (met : Region) → IsTried out bytes base → find (λ one. overlaps one (at_base bytes base)) out ≡ Some met →
     next ≡ 1048576 * steps → met.base + met.bytes ≤ next → next < met.base + met.bytes + 1048576 → IsTried out bytes next
 tried-past out bytes base next steps met before found multiple past near =
-    let there : meets met (at_base bytes base) ≡ true = find-passes (λ one. meets one (at_base bytes base)) out met found in
-    let grows : base < met.base + met.bytes = meets-behind met bytes base there in
+    let there : overlaps met (at_base bytes base) ≡ true = find-passes (λ one. overlaps one (at_base bytes base)) out met found in
+    let grows : base < met.base + met.bytes = overlaps-behind met bytes base there in
     record {
       steps = steps - 1;
       multiple = omega (arith, before.multiple);
       tried = λ k below. tried_at out bytes base next steps met before found there multiple past near k (cases_lt k before.steps) below;
     }
   where
-    tried_at : (out : List Region) (bytes base next steps : ℕ) (met : Region) (before : IsTried out bytes base) → find (λ one. meets one (at_base bytes base)) out ≡ Some met → meets met (at_base bytes base) ≡ true →
+    tried_at : (out : List Region) (bytes base next steps : ℕ) (met : Region) (before : IsTried out bytes base) → find (λ one. overlaps one (at_base bytes base)) out ≡ Some met → overlaps met (at_base bytes base) ≡ true →
         next ≡ 1048576 * steps → met.base + met.bytes ≤ next → next < met.base + met.bytes + 1048576 →
-        (k : ℕ) → (k < before.steps) ⊎ (before.steps ≤ k) → k < steps - 1 → meets_any out (at_base bytes (1048576 * (k + 1))) ≡ true
+        (k : ℕ) → (k < before.steps) ⊎ (before.steps ≤ k) → k < steps - 1 → overlaps_any out (at_base bytes (1048576 * (k + 1))) ≡ true
     tried_at out bytes base next steps met before found there multiple past near k (inl less) below = before.tried k less
     tried_at out bytes base next steps met before found there multiple past near k (inr more) below =
-        find-any (λ one. meets one (at_base bytes base)) (λ one. meets one (at_base bytes (1048576 * (k + 1)))) out met found
-        (meets-on met bytes base (1048576 * (k + 1)) there (omega (arith, before.multiple)) (omega arith))
+        find-any (λ one. overlaps one (at_base bytes base)) (λ one. overlaps one (at_base bytes (1048576 * (k + 1)))) out met found
+        (overlaps-on met bytes base (1048576 * (k + 1)) there (omega (arith, before.multiple)) (omega arith))
 
 -- nothing is left to try where the base's bytes end too high
 pub none-past : (out : List Region) (bytes base : ℕ) (region : Region) → IsTried out bytes base → 2 ^ 64 - 1 < base + bytes → IsByRule out bytes region → ⊥
@@ -98,16 +95,16 @@ none-past out bytes base region before high rule = none_past_at out bytes base r
     none_past_at out bytes base region before high rule (inr more) = omega (arith, before.multiple, rule.least.multiple, rule.ends)
 
 -- nor where the region that is met ends so high that no multiple follows
-pub none-behind : (out : List Region) (bytes base : ℕ) (region met : Region) → 1 ≤ bytes → IsTried out bytes base → find (λ one. meets one (at_base bytes base)) out ≡ Some met →
+pub none-behind : (out : List Region) (bytes base : ℕ) (region met : Region) → 1 ≤ bytes → IsTried out bytes base → find (λ one. overlaps one (at_base bytes base)) out ≡ Some met →
     2 ^ 64 - 1048576 < met.base + met.bytes → IsByRule out bytes region → ⊥
 none-behind out bytes base region met some before found high rule = none_behind_at out bytes base region met some before found high rule (cases_lt rule.least.steps before.steps)
   where
-    none_behind_at : (out : List Region) (bytes base : ℕ) (region met : Region) → 1 ≤ bytes → (before : IsTried out bytes base) → find (λ one. meets one (at_base bytes base)) out ≡ Some met →
+    none_behind_at : (out : List Region) (bytes base : ℕ) (region met : Region) → 1 ≤ bytes → (before : IsTried out bytes base) → find (λ one. overlaps one (at_base bytes base)) out ≡ Some met →
         2 ^ 64 - 1048576 < met.base + met.bytes → (rule : IsByRule out bytes region) → (rule.least.steps < before.steps) ⊎ (before.steps ≤ rule.least.steps) → ⊥
     none_behind_at out bytes base region met some before found high rule (inl less) = true_is_not_false (sym (free_at out bytes region rule) ∙ before.tried rule.least.steps less)
     none_behind_at out bytes base region met some before found high rule (inr more) =
-        true_is_not_false (sym (free_at out bytes region rule) ∙ find-any (λ one. meets one (at_base bytes base)) (λ one. meets one (at_base bytes (1048576 * (rule.least.steps + 1)))) out met found
-        (meets-on met bytes base (1048576 * (rule.least.steps + 1)) (find-passes (λ one. meets one (at_base bytes base)) out met found)
+        true_is_not_false (sym (free_at out bytes region rule) ∙ find-any (λ one. overlaps one (at_base bytes base)) (λ one. overlaps one (at_base bytes (1048576 * (rule.least.steps + 1)))) out met found
+        (overlaps-on met bytes base (1048576 * (rule.least.steps + 1)) (find-passes (λ one. overlaps one (at_base bytes base)) out met found)
         (omega (arith, before.multiple)) (omega (arith, rule.least.multiple, rule.ends))))
 
 -- what the rule gives is the answer of a get past the script's end

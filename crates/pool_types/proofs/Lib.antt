@@ -1,3 +1,4 @@
 pub mod Bases
+pub mod CallerLemmas
 pub mod Lists
 pub mod Reading

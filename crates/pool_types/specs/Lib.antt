@@ -1,5 +1,11 @@
 pub mod Causes
+pub mod Geometry
+pub mod Laws
+pub mod Limits
 pub mod Policies
 pub mod Regions
+pub mod Rows
 pub mod Script
 pub mod Streams
+pub mod Texts
+pub mod Transfers

@@ -1,5 +1,7 @@
 -- Which policies and limits a pool can be made with.
 use Rattle.std.specs.Prelude.{◌≡◌, ℕ, ◌+◌, ◌-◌, ◌*◌, ◌/◌, ◌==◌, Bool, true, false, not, ◌&&◌, ◌||◌, if◌then◌else◌, nat_lt, Result, Ok, Err}
+use Rattle.pool_types.specs.Geometry.{granule_bytes, granules_of}
+use Rattle.pool_types.specs.Limits.{most_region_bytes, most_seats, most_span}
 use Rattle.pool_types.specs.declared.policy.Policy.{Policy}
 use Rattle.pool_types.specs.declared.policy.Limits.{Limits}
 use Rattle.pool_types.specs.declared.policy.Which.{Which}
@@ -13,11 +15,11 @@ align_up bytes multiple = (bytes + (multiple - 1)) / multiple * multiple
 
 -- regions are asked for in multiples of this
 abbrev pub granularity_of : Policy → ℕ
-granularity_of policy = if policy.granularity == 0 then 8192 else policy.granularity
+granularity_of policy = if policy.granularity == 0 then granule_bytes else policy.granularity
 
 -- the granules that the bytes of the least region may touch, and one index for its wall
 abbrev pub least_span : Policy → Limits → ℕ
-least_span policy limits = (align_up limits.region (granularity_of policy) + 8191) / 8192 + 2
+least_span policy limits = granules_of (align_up limits.region (granularity_of policy)) + 2
 
 -- a callback or the version is missing
 abbrev pub is_invalid : Policy → Bool
@@ -29,10 +31,10 @@ is_unsupported policy = nat_lt 1 policy.version || not (policy.reserved == 0)
 
 -- the limit is out of its range
 abbrev pub is_out : Policy → Limits → Which → Bool
-is_out policy limits Seats = limits.seats == 0 || nat_lt 64 limits.seats
-is_out policy limits Region = nat_lt limits.region 8192 || nat_lt 8388608 limits.region
-is_out policy limits Granularity = nat_lt 8388608 policy.granularity
-is_out policy limits Span = nat_lt 1024 limits.span || nat_lt limits.span (least_span policy limits)
+is_out policy limits Seats = limits.seats == 0 || nat_lt most_seats limits.seats
+is_out policy limits Region = nat_lt limits.region granule_bytes || nat_lt most_region_bytes limits.region
+is_out policy limits Granularity = nat_lt most_region_bytes policy.granularity
+is_out policy limits Span = nat_lt most_span limits.span || nat_lt limits.span (least_span policy limits)
 
 -- the limits that are judged before this one are in their ranges
 abbrev pub AreIn : Policy → Limits → Which → Type 0

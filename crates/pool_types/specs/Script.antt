@@ -2,7 +2,8 @@
 use Rattle.std.specs.Prelude.{◌≡◌, ℕ, ◌+◌, ◌-◌, ◌*◌, ◌^◌, ◌<◌, ◌≤◌, Bool, true, false, if◌then◌else◌, is_some, List, ◌++◌, length, drop, option_to_list, slice_get, unwrap_or, Option, Some, None}
 use Rattle.pool_types.specs.declared.values.Region.{Region}
 use Rattle.pool_types.specs.Causes.{counted_up}
-use Rattle.pool_types.specs.Regions.{meets_any, IsFresh, Loses}
+use Rattle.pool_types.specs.Limits.{most_regions}
+use Rattle.pool_types.specs.Regions.{overlaps_any, IsFresh, Loses}
 
 -- what is left of the scripts, the regions out, and how many calls have failed
 pub record Script : Type 0 where
@@ -11,12 +12,12 @@ pub record Script : Type 0 where
   pub out : List Region
   pub faults : ℕ
 
--- the least multiple of 1048576, from 1048576 on, at which so many bytes meet no region that is out
+-- the least multiple of 1048576, from 1048576 on, at which so many bytes overlap no region that is out
 pub record IsLeastFree (out : List Region) (bytes base : ℕ) : Type 0 where
   pub steps : ℕ
   pub multiple : base ≡ 1048576 * (steps + 1)
-  pub free : meets_any out (record { base = base; bytes = bytes }) ≡ false
-  pub least : (k : ℕ) → k < steps → meets_any out (record { base = 1048576 * (k + 1); bytes = bytes }) ≡ true
+  pub free : overlaps_any out (record { base = base; bytes = bytes }) ≡ false
+  pub least : (k : ℕ) → k < steps → overlaps_any out (record { base = 1048576 * (k + 1); bytes = bytes }) ≡ true
 
 -- past the script: exactly the bytes asked, at the least free base
 pub record IsByRule (out : List Region) (bytes : ℕ) (region : Region) : Type 0 where
@@ -32,8 +33,8 @@ IsGiven (Some (Some entry)) out bytes region = (region ≡ entry) × IsFresh out
 
 -- a get may answer so: a region is given where one can be, and no more than 64 are out at a time
 abbrev pub IsAnswer : Option (Option Region) → List Region → ℕ → Option Region → Type 0
-IsAnswer entry out bytes (Some region) = (length out < 64) × IsGiven entry out bytes region
-IsAnswer entry out bytes None = length out < 64 → (region : Region) → IsGiven entry out bytes region → ⊥
+IsAnswer entry out bytes (Some region) = (length out < most_regions) × IsGiven entry out bytes region
+IsAnswer entry out bytes None = length out < most_regions → (region : Region) → IsGiven entry out bytes region → ⊥
 
 -- a get takes the next entry; a fault is counted
 pub record Gets (old : Script) (bytes : ℕ) (answer : Option Region) (new : Script) : Type 0 where

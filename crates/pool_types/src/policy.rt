@@ -1,8 +1,11 @@
 //! What a pool is made with, why its making is refused, and the record of a region that it got.
 ghost use Rattle.std.specs.Prelude.{◌≡◌, ◌≤◌, true, OnOk, IfErr};
+ghost use Rattle.pool_types.specs.Limits.{most_region_bytes};
 ghost use Rattle.pool_types.specs.Policies.{Checks, AreIn, AreAllIn, is_out, least_span};
 
-use crate::values::{GRANULE_BYTES, Region};
+use crate::geometry::GRANULE_BYTES;
+use crate::limits::{MOST_REGION_BYTES, MOST_SEATS, MOST_SPAN};
+use crate::values::Region;
 use thiserror::Error;
 
 /// How a pool gets and gives back its regions. oneTBB's `MemPoolPolicy`, in
@@ -89,16 +92,16 @@ fn check_limits(policy: &Policy, limits: &Limits) -> Result<(), Which>
     ensures ok { OnOk result (AreAllIn policy.now limits.now) }
     ensures err { IfErr result (λ which. AreIn policy.now limits.now which × (is_out policy.now limits.now which ≡ true)) }
 {
-    if limits.seats == 0 || limits.seats > 64 {
+    if limits.seats == 0 || limits.seats > MOST_SEATS {
         return Err(Which::Seats);
     }
-    if limits.region < 8192 || limits.region > 8388608 {
+    if limits.region < GRANULE_BYTES || limits.region > MOST_REGION_BYTES {
         return Err(Which::Region);
     }
-    if policy.granularity > 8388608 {
+    if policy.granularity > MOST_REGION_BYTES {
         return Err(Which::Granularity);
     }
-    if limits.span > 1024 || u64::from(limits.span) < least_span_of(policy, limits) {
+    if limits.span > MOST_SPAN || u64::from(limits.span) < least_span_of(policy, limits) {
         return Err(Which::Span);
     }
     Ok(())
@@ -106,8 +109,8 @@ fn check_limits(policy: &Policy, limits: &Limits) -> Result<(), Which>
 
 /// The least span: the granules that the bytes of a region may touch, and one index for the wall.
 fn least_span_of(policy: &Policy, limits: &Limits) -> u64
-    requires region { limits.now.region ≤ 8388608 }
-    requires granularity { policy.now.granularity ≤ 8388608 }
+    requires region { limits.now.region ≤ most_region_bytes }
+    requires granularity { policy.now.granularity ≤ most_region_bytes }
     ensures { result ≡ least_span policy.now limits.now }
 {
     let granularity = if policy.granularity == 0 {

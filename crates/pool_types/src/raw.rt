@@ -22,7 +22,7 @@ pub trait Raw: Drop {
     /// What a put of the region may answer, and the callback after it.
     ghost passed: { Self → Region → Bool → Self → Type 0 };
 
-    /// Gives a region of at least so many bytes that meets none of those out. None comes only where the count of
+    /// Gives a region of at least so many bytes that overlaps none of those out. None comes only where the count of
     /// faults rose, and then the regions out are as before.
     fn get(&mut self, bytes: u64) -> Option<Region>
         requires { 1 ≤ bytes }

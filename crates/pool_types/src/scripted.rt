@@ -2,9 +2,10 @@
 ghost use Rattle.std.specs.Prelude.{◌≡◌, ◌≤◌, ◌<◌, ◌+◌, ◌-◌, ◌*◌, ◌^◌, true, false, List, ℕ, [], ◌++◌, drop, option_to_list, slice_get, IfSome, IfNone, Contains, length, find, slice_index_or};
 ghost use Rattle.pool_types.specs.Causes.{HasCauseOfNone, HasCauseOfFalse};
 ghost use Rattle.pool_types.specs.declared.values.Region.{Region};
-ghost use Rattle.pool_types.specs.Regions.{meets, meets_any, IsFresh, Loses};
+ghost use Rattle.pool_types.specs.Regions.{overlaps, overlaps_any, IsFresh, Loses};
 ghost use Rattle.pool_types.specs.Script.{Gets, Puts, IsAnswer, IsByRule, IsGiven};
 
+use crate::limits::MOST_REGIONS;
 use crate::raw::Raw;
 use crate::values::Region;
 use arrayvec::ArrayVec;
@@ -14,7 +15,7 @@ use std::marker::Model;
 const STEP: u64 = 1048576;
 
 /// Answers each get and put by the next entry of its script. Where the script of gets is spent, it gives exactly the
-/// bytes asked, at the least base from 1048576 on that is a multiple of 1048576 and meets no region that is out;
+/// bytes asked, at the least base from 1048576 on that is a multiple of 1048576 and overlaps no region that is out;
 /// where the script of puts is spent, a put succeeds. At most 64 regions are out at a time.
 #[derive(Drop)]
 pub struct ScriptedRaw {
@@ -22,7 +23,7 @@ pub struct ScriptedRaw {
     gets_taken: usize,
     puts: Vec<bool>,
     puts_taken: usize,
-    out: ArrayVec<Region, 64>,
+    out: ArrayVec<Region, MOST_REGIONS>,
     faults: u64,
 }
 
@@ -39,8 +40,8 @@ impl ScriptedRaw {
     ghost use Rattle.std.specs.Prelude.{◌≡◌, []};
 
     /// With these scripts, no region out and no fault. A None among the gets is a get that fails, and so is a region
-    /// that has fewer bytes than asked, ends past the greatest u64 or meets one that is out; a false among the puts is
-    /// a put that fails.
+    /// that has fewer bytes than asked, ends past the greatest u64 or overlaps one that is out; a false among the puts
+    /// is a put that fails.
     pub fn of(gets: Vec<Option<Region>>, puts: Vec<bool>) -> Self
         ensures { result ≡ record { gets = gets.items; puts = puts.items; out = []; faults = 0 } }
     {
@@ -67,27 +68,27 @@ fn one_more<T>(script: &[T], taken: usize) -> usize
 }
 
 /// Whether some address lies in both.
-fn do_meet(one: &Region, other: &Region) -> bool
-    ensures { result ≡ meets one.now other.now }
+fn overlaps(one: &Region, other: &Region) -> bool
+    ensures { result ≡ overlaps one.now other.now }
 {
     u128::from(other.base) < u128::from(one.base) + u128::from(one.bytes)
         && u128::from(one.base) < u128::from(other.base) + u128::from(other.bytes)
 }
 
 /// The first of the regions that has an address in common with these bytes.
-fn first_met(out: &[Region], wanted: &Region) -> Option<Region>
-    ensures { result ≡ find (λ one. meets one wanted.now) out.now }
+fn first_overlapping(out: &[Region], wanted: &Region) -> Option<Region>
+    ensures { result ≡ find (λ one. overlaps one wanted.now) out.now }
 {
     for one in out {
-        if do_meet(one, wanted) {
+        if overlaps(one, wanted) {
             return Some(*one);
         }
     }
     None
 }
 
-/// The least multiple of `STEP` at which so many bytes meet no region that is out, where they end there at or below
-/// the greatest u64. A region that is met is met at no multiple past its end, so at most 65 bases are tried.
+/// The least multiple of `STEP` at which so many bytes overlap no region that is out, where they end there at or below
+/// the greatest u64. A region that is overlapped is so at no multiple past its end, so at most 65 bases are tried.
 fn least_free(out: &[Region], bytes: u64) -> Option<Region>
     requires { 1 ≤ bytes }
     ensures some { IfSome result (IsByRule out.now bytes) }
@@ -96,7 +97,7 @@ fn least_free(out: &[Region], bytes: u64) -> Option<Region>
     let mut base: u64 = STEP;
     while base <= u64::MAX - bytes {
         let wanted = Region { base, bytes };
-        let Some(met) = first_met(out, &wanted) else {
+        let Some(met) = first_overlapping(out, &wanted) else {
             return Some(wanted);
         };
         let Some(next) = step_from(met) else {
@@ -124,7 +125,7 @@ fn answer_of(entry: Option<Option<Region>>, out: &[Region], bytes: u64) -> Optio
     requires { 1 ≤ bytes }
     ensures { IsAnswer entry out.now bytes result }
 {
-    if out.len() >= 64 {
+    if out.len() >= MOST_REGIONS {
         return None;
     }
     match entry {
@@ -134,7 +135,7 @@ fn answer_of(entry: Option<Option<Region>>, out: &[Region], bytes: u64) -> Optio
     }
 }
 
-/// The region, where it has the room asked, ends where an address can, and meets none of those that are out.
+/// The region, where it has the room asked, ends where an address can, and overlaps none of those that are out.
 fn fresh_or_none(out: &[Region], bytes: u64, region: Region) -> Option<Region>
     ensures some { IfSome result (λ given. (given ≡ region) × IsFresh out.now bytes region) }
     ensures none { IfNone result (IsFresh out.now bytes region → ⊥) }
@@ -143,7 +144,7 @@ fn fresh_or_none(out: &[Region], bytes: u64, region: Region) -> Option<Region>
     if region.bytes < bytes || end > u128::from(u64::MAX) {
         return None;
     }
-    match first_met(out, &region) {
+    match first_overlapping(out, &region) {
         None => Some(region),
         Some(_) => None,
     }
@@ -181,7 +182,7 @@ impl Raw for ScriptedRaw {
 }
 
 /// Takes the first place of the region out of the list.
-fn remove_region(out: &mut ArrayVec<Region, 64>, region: Region)
+fn remove_region(out: &mut ArrayVec<Region, MOST_REGIONS>, region: Region)
     requires { Contains out.old.items region }
     ensures { Loses out.old.items region out.new.items }
 {

@@ -1,12 +1,5 @@
 //! Places, regions, grants, what a call asks for and what it answers.
 
-/// The bytes of a granule, the unit in which a pool cuts its regions. This project's own.
-pub const GRANULE_BYTES: u64 = 8192;
-
-/// The bytes of a slab: two granules at an address that is a multiple of it. tbbmalloc's `slabSize`, in
-/// src/tbbmalloc/tbbmalloc_internal.h.
-pub const SLAB_BYTES: u64 = 16384;
-
 /// A byte of a pool: the pool, the number of one of its regions, and the offset in that region. This project's own,
 /// in the place of addresses: the bytes behind it are not kept.
 #[derive(Clone, Copy, Debug, Default, PartialEq, Eq)]

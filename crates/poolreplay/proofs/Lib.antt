@@ -1,5 +1,3 @@
-pub mod Alls
-pub mod StreamLemmas
 pub mod StatusLemmas
 pub mod RegionLemmas
 pub mod NameLemmas

@@ -14,7 +14,7 @@ use Rattle.plain_lists.specs.Backend.{first_fit}
 use Rattle.plain_lists.specs.Whole.{Spot, whole, class_at, malloc_from, begins_in, stored_room, block_room, region_room, newest, spot_at, is_unit, free_of, msize_of, identify_of}
 use Rattle.plain_lists.specs.Held.{leak_at, leaks_of, slab_leaks, leaks_from, leaks_at}
 use Rattle.poolreplay.specs.Running.{IsLeakNamed}
-use Rattle.poolreplay.proofs.Alls.{All-cons, All-none, All-append}
+use Rattle.std.proofs.lemmas.List.Elements.{All-cons, All-nil, All-append}
 
 -- the answer of a whole call
 pub answer_named : (threads : ℕ) (lists : Lists) (request : Request) → 0 < threads → IsAnswerNamed threads (whole lists request).answer
@@ -68,21 +68,21 @@ answer_named threads lists Exit some = tt
 
 -- the objects of a slab, of all slabs, and of the lists
 leak_named : (threads : ℕ) (slab : OwnSlab) (object : ℕ) (held : Option ℕ) → 0 < threads → All (IsLeakNamed threads) (leak_at slab object held)
-leak_named threads slab object None some = All-none (IsLeakNamed threads)
-leak_named threads slab object (Some number) some = All-cons (IsLeakNamed threads) _ [] some (All-none (IsLeakNamed threads))
+leak_named threads slab object None some = All-nil (IsLeakNamed threads)
+leak_named threads slab object (Some number) some = All-cons (IsLeakNamed threads) _ [] some (All-nil (IsLeakNamed threads))
 
 slab_named : (threads : ℕ) (slab : OwnSlab) (object : ℕ) (objects : List (Option ℕ)) → 0 < threads → All (IsLeakNamed threads) (leaks_of slab object objects)
-slab_named threads slab object [] some = All-none (IsLeakNamed threads)
+slab_named threads slab object [] some = All-nil (IsLeakNamed threads)
 slab_named threads slab object (held ∷ more) some =
     All-append (IsLeakNamed threads) (leaks_of slab (object + 1) more) (leak_at slab object held) (slab_named threads slab (object + 1) more some) (leak_named threads slab object held some)
 
 room_named : (threads : ℕ) (slab : Option OwnSlab) → 0 < threads → All (IsLeakNamed threads) (slab_leaks slab)
-room_named threads None some = All-none (IsLeakNamed threads)
+room_named threads None some = All-nil (IsLeakNamed threads)
 room_named threads (Some slab) some = slab_named threads slab 0 slab.objects some
 
 from_named : (threads rooms index : ℕ) (slabs : List OwnSlab) → 0 < threads → All (IsLeakNamed threads) (leaks_from rooms index slabs)
 unfolding leaks_from
-from_named threads zero index slabs some = All-none (IsLeakNamed threads)
+from_named threads zero index slabs some = All-nil (IsLeakNamed threads)
 from_named threads (suc rooms) index slabs some =
     All-append (IsLeakNamed threads) (slab_leaks (find (λ slab. slab.index == index) slabs)) (leaks_from rooms (index + 2) slabs)
     (room_named threads (find (λ slab. slab.index == index) slabs) some) (from_named threads rooms (index + 2) slabs some)

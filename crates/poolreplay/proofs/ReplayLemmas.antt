@@ -1,10 +1,11 @@
 -- What a trace that was read and run is, and which status comes.
-use Rattle.std.proofs.Common.{◌≡◌, ℕ, ◌-◌, ◌^◌, ◌<◌, ◌≤◌, List, [], ◌∷◌, ◌++◌, length, map, Some, None, refl, sym, ◌∙◌, ap, subst, lit<, arith, append_assoc}
+use Rattle.std.proofs.Common.{◌≡◌, ℕ, ◌-◌, ◌^◌, ◌<◌, ◌≤◌, List, [], ◌∷◌, ◌++◌, length, map, Some, None, sym, ◌∙◌, ap, subst, lit<, arith}
 use Rattle.std.specs.Prelude.{All, Ok}
 use Rattle.pool_types.specs.declared.values.Region.{Region}
 use Rattle.pool_types.specs.declared.values.Answer.{Answer}
 use Rattle.pool_types.specs.declared.values.Request.{Request}
 use Rattle.pool_types.specs.declared.values.Request.TheVariants.{Malloc}
+use Rattle.pool_types.specs.Limits.{most_lines, plain_region_bytes}
 use Rattle.pool_types.specs.Script.{IsAnswer}
 use Rattle.machine.specs.Runs.{Event}
 use Rattle.part_model.specs.declared.totals.Totals.{Totals}
@@ -12,11 +13,11 @@ use Rattle.trace_reader.specs.declared.acts.Forms.TheVariants as forms
 use Rattle.trace_reader.specs.declared.acts.TraceLine.{TraceLine}
 use Rattle.trace_reader.specs.declared.trace.Trace.{Trace}
 use Rattle.trace_reader.specs.Text.{ReadsTrace}
-use Rattle.trace_reader.proofs.ReplayShape.{serves_replays}
-use Rattle.trace_reader.proofs.ServedLaws.{numbers_lines}
+use Rattle.trace_reader.proofs.CallerLemmas.{lines_are_numbered, replays_have_one_shape}
 use Rattle.report_text.specs.declared.entry.ReportEntry.{ReportEntry}
-use Rattle.report_text.specs.Pieces.{names_of}
-use Rattle.report_text.specs.Entries.{entry_text, entries_text, end_text, report_text}
+use Rattle.pool_types.specs.Texts.{names_of}
+use Rattle.report_text.specs.Entries.{end_text, report_text}
+use Rattle.report_text.proofs.CallerLemmas.{entries_text-append}
 use Rattle.report_text.specs.Reports.{ended_text}
 use Rattle.plain_lists.specs.Lists.{no_lists}
 use Rattle.plain_lists.specs.Held.{totals_at, leaks_at}
@@ -32,21 +33,15 @@ use Rattle.poolreplay.specs.Replay.{IsReplayed}
 use Rattle.poolreplay.proofs.RegionLemmas.{first_by_rule}
 use Rattle.poolreplay.proofs.RunLemmas.{IsReported, all_asked, requests_same, requests_served, requests_few, mallocs_small, served_reported}
 
--- the texts of two lists of entries
-pub entries_text-append : (names : List (List ℕ)) (xs ys : List ReportEntry) → entries_text names (xs ++ ys) ≡ entries_text names xs ++ entries_text names ys
-entries_text-append names [] ys = refl
-entries_text-append names (x ∷ xs) ys =
-    ap (λ (text : List ℕ). entry_text names x ++ text) (entries_text-append names xs ys) ∙ sym (append_assoc (entry_text names x) (entries_text names xs) (entries_text names ys))
-
 -- a trace that was read is one that is served
 pub trace_reported : (bytes : List ℕ) (trace : Trace) → ReadsTrace forms.Replay bytes (Ok trace) → IsReported (length trace.names.items) trace.lines.items
-trace_reported bytes trace spelled = served_reported trace.names.items trace.lines.items (serves_replays bytes trace spelled)
+trace_reported bytes trace spelled = served_reported trace.names.items trace.lines.items (replays_have_one_shape bytes trace spelled)
 
 pub trace_served : (bytes : List ℕ) (trace : Trace) → ReadsTrace forms.Replay bytes (Ok trace) → All IsServedLine trace.lines.items
 trace_served bytes trace spelled = (trace_reported bytes trace spelled).served
 
-pub trace_short : (bytes : List ℕ) (trace : Trace) → ReadsTrace forms.Replay bytes (Ok trace) → length trace.lines.items ≤ 65536
-trace_short bytes trace spelled = (numbers_lines forms.Replay bytes trace spelled).1
+pub trace_short : (bytes : List ℕ) (trace : Trace) → ReadsTrace forms.Replay bytes (Ok trace) → length trace.lines.items ≤ most_lines
+trace_short bytes trace spelled = (lines_are_numbered forms.Replay bytes trace spelled).1
 
 -- calls that are served and are mallocs alone are placed by counts
 all_placed : (requests : List Request) → All IsServed requests → (sizes : List ℕ) → requests ≡ map Malloc sizes → ArePlaced [] sizes (answers_to no_lists requests)
@@ -79,7 +74,7 @@ replayed bytes text trace spelled written =
       asked = whole.asked ∙ sym (requests_same no_lists no_names lines) ∙ ap (λ (answers : List Answer). requests_from no_names lines answers) (sym whole.answered);
       answered = whole.answered ∙ ap (λ (rs : List Request). answers_to no_lists rs) (sym whole.asked);
       placed = λ sizes are. subst (λ (answers : List Answer). ArePlaced [] sizes answers) (sym whole.answered) (all_placed requests served sizes (sym whole.asked ∙ are));
-      region = λ region member. subst (λ (r : Region). IsAnswer None [] 1048576 (Some r)) (sym (whole.regions region member)) (lit< tt, first_by_rule);
+      region = λ region member. subst (λ (r : Region). IsAnswer None [] plain_region_bytes (Some r)) (sym (whole.regions region member)) (lit< tt, first_by_rule);
       leaks = leaks_at (lists_after no_lists requests);
       held = holds.leaks;
       listed = ap (λ (rs : List Request). leaks_at (lists_after no_lists rs)) (sym whole.asked);

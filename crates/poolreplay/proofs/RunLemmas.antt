@@ -6,7 +6,7 @@ use Rattle.pool_types.specs.Policies.{Checks}
 use Rattle.pool_types.specs.declared.values.Answer.{Answer}
 use Rattle.pool_types.specs.declared.values.Request.{Request}
 use Rattle.pool_types.specs.declared.values.Request.TheVariants.{Malloc}
-use Rattle.trace_reader.specs.declared.names.ThreadName.{ThreadName}
+use Rattle.pool_types.specs.declared.texts.ThreadName.{ThreadName}
 use Rattle.trace_reader.specs.declared.acts.TraceCall.{TraceCall}
 use Rattle.trace_reader.specs.declared.acts.TraceCall.TheVariants as call
 use Rattle.trace_reader.specs.declared.acts.Act.{Act}
@@ -22,7 +22,7 @@ use Rattle.plain_runs.specs.Steps.{fixed_terms}
 use Rattle.poolreplay.specs.Names.{Names, no_names, request_of, names_after, call_at, asks, requests_from}
 use Rattle.poolreplay.specs.Entries.{Judged, limits_of, listed, reports, line_entries, has_pool, end_entries}
 use Rattle.poolreplay.specs.Running.{Going, no_line as nothing_run, judged, after_line, after_lines, entry_at, run_entries, held_entries, AsksServed, IsServedLine}
-use Rattle.poolreplay.proofs.Alls.{All-cons, All-none, All-first, All-rest}
+use Rattle.std.proofs.lemmas.List.Elements.{All-cons, All-nil, All-head, All-tail}
 use Rattle.poolreplay.proofs.NameLemmas.{served_same}
 
 -- what the calls of the lines ask of a pool
@@ -58,10 +58,10 @@ then_served later lists names (Some call) served rest =
     All-cons IsServed (request_of names call) (later _ _) (served_same names call served) (rest (whole lists (request_of names call)).lists (names_after names call (whole lists (request_of names call)).answer))
 
 pub requests_served : (lists : Lists) (names : Names) (lines : List TraceLine) → All IsServedLine lines → All IsServed (requests_of lists names lines)
-requests_served lists names [] served = All-none IsServed
+requests_served lists names [] served = All-nil IsServed
 requests_served lists names (line ∷ lines) served =
-    then_served (λ next after. requests_of next after lines) lists names (call_at line.act) (All-first IsServedLine line lines served)
-    (λ next after. requests_served next after lines (All-rest IsServedLine line lines served))
+    then_served (λ next after. requests_of next after lines) lists names (call_at line.act) (All-head IsServedLine line lines served)
+    (λ next after. requests_served next after lines (All-tail IsServedLine line lines served))
 
 then_few : (later : Lists → Names → List Request) (lists : Lists) (names : Names) (call : Option TraceCall) (most : ℕ) → ((next : Lists) (after : Names) → length (later next after) ≤ most) →
     length (asked_then later lists names call) ≤ most + 1
@@ -76,9 +76,9 @@ requests_few lists names (line ∷ lines) =
 
 -- mallocs that are served are of small sizes
 pub mallocs_small : (sizes : List ℕ) → All IsServed (map Malloc sizes) → All (λ size. size ≤ 8128) sizes
-mallocs_small [] served = All-none (λ size. size ≤ 8128)
+mallocs_small [] served = All-nil (λ size. size ≤ 8128)
 mallocs_small (size ∷ sizes) served =
-    All-cons (λ s. s ≤ 8128) size sizes (All-first IsServed (Malloc size) (map Malloc sizes) served) (mallocs_small sizes (All-rest IsServed (Malloc size) (map Malloc sizes) served))
+    All-cons (λ s. s ≤ 8128) size sizes (All-head IsServed (Malloc size) (map Malloc sizes) served) (mallocs_small sizes (All-tail IsServed (Malloc size) (map Malloc sizes) served))
 
 -- lines that are calls, on a pool that was made
 
@@ -98,7 +98,7 @@ first_served (act.Call thread pool call) deeds are = served_asks call are.2
 first_served other deeds are = absurd are
 
 calls_served : (lines : List TraceLine) → AreServedCalls (map act_of lines) → All IsServedLine lines
-calls_served [] are = All-none IsServedLine
+calls_served [] are = All-nil IsServedLine
 calls_served (line ∷ lines) are =
     All-cons IsServedLine line lines (first_served line.act (map act_of lines) are) (calls_served lines (rest_served line.act (map act_of lines) are))
 
@@ -161,13 +161,13 @@ one_checked : Checks fixed_terms.policy (limits_of 1) (judged 1)
 one_checked = record { valid = refl; supported = refl; limits_in = ((refl, refl, refl), refl) }
 
 no_line : IsReported 0 []
-no_line = record { checked = none_checked; served = All-none IsServedLine; reported = refl }
+no_line = record { checked = none_checked; served = All-nil IsServedLine; reported = refl }
 
 thread_line : (n : ℕ) → IsReported 1 (line_at n act.Threads ∷ [])
-thread_line n = record { checked = one_checked; served = All-cons IsServedLine (line_at n act.Threads) [] tt (All-none IsServedLine); reported = refl }
+thread_line n = record { checked = one_checked; served = All-cons IsServedLine (line_at n act.Threads) [] tt (All-nil IsServedLine); reported = refl }
 
 pool_line : (n : ℕ) → IsReported 0 (line_at n plain_pool ∷ [])
-pool_line n = record { checked = none_checked; served = All-cons IsServedLine (line_at n plain_pool) [] tt (All-none IsServedLine); reported = refl }
+pool_line n = record { checked = none_checked; served = All-cons IsServedLine (line_at n plain_pool) [] tt (All-nil IsServedLine); reported = refl }
 
 call_lines : (n m : ℕ) (lines : List TraceLine) → AreServedCalls (map act_of lines) → IsReported 1 (line_at n act.Threads ∷ line_at m plain_pool ∷ lines)
 call_lines n m lines are = record {

@@ -6,17 +6,17 @@ use Rattle.std.specs.declared.option.Option.{Option}
 use Rattle.std.proofs.lemmas.List.{append-nil, length-append}
 use Rattle.std.specs.Io.KnownBytes.{Consumes, IsAtEnd}
 use Rattle.pool_types.specs.Causes.{Rose}
-use Rattle.trace_reader.specs.declared.refusal.Fault.{Fault}
+use Rattle.trace_reader.specs.declared.refusal.Refusal.{Refusal}
 use Rattle.trace_reader.specs.declared.refusal.TraceError.{TraceError}
 use Rattle.trace_reader.specs.declared.refusal.TraceRefused.TheVariants.{Bad}
 use Rattle.trace_reader.specs.declared.acts.Forms.TheVariants as forms
 use Rattle.trace_reader.specs.declared.trace.Trace.{Trace}
-use Rattle.trace_reader.specs.Faults.{kind_of}
-use Rattle.trace_reader.specs.Text.{ReadsTrace, Whole, Refused}
-use Rattle.trace_reader.proofs.OneText.{reads_one}
+use Rattle.trace_reader.specs.Refusals.{refusal_kind}
+use Rattle.trace_reader.specs.Text.{AllRead, FirstRefused, ReadsTrace}
+use Rattle.trace_reader.proofs.CallerLemmas.{traces_are_clear}
 use Rattle.poolreplay.specs.declared.replay.Status.{Status}
 use Rattle.poolreplay.specs.declared.replay.Status.TheVariants.{Done, BadWords, BadTrace, TooLong, ReadFault, WriteFault, NoMemory}
-use Rattle.poolreplay.specs.Streams.{IsReadWhole}
+use Rattle.pool_types.specs.Transfers.{IsReadWhole}
 use Rattle.poolreplay.specs.Replay.{IsDue, IsReply, IsRefused, IsWanted, ComesBut, refused_text}
 
 -- what was taken is no more than the source had
@@ -35,20 +35,20 @@ read_all_of bytes new taken read = all_taken bytes new taken read.consumed read.
 -- no text both spells a trace and is refused
 not_both : (bytes : List ℕ) (trace : Trace) (line kind : ℕ) → ReadsTrace forms.Replay bytes (Ok trace) → IsRefused bytes line kind → ⊥
 not_both bytes trace line kind spelled refused =
-    let same : Whole trace.lines.items _ ≡ Refused line refused.0 = reads_one forms.Replay bytes _ _ spelled refused.1 in
+    let same : AllRead trace.lines.items _ ≡ FirstRefused line refused.0 = traces_are_clear forms.Replay bytes _ _ spelled refused.1 in
     cc
 
 -- and one line is refused, with one kind
-refused_line : {line other : ℕ} {fault same : Fault} → Refused line fault ≡ Refused other same → line ≡ other
+refused_line : {line other : ℕ} {refusal same : Refusal} → FirstRefused line refusal ≡ FirstRefused other same → line ≡ other
 refused_line is = cc
 
-refused_fault : {line other : ℕ} {fault same : Fault} → Refused line fault ≡ Refused other same → fault ≡ same
-refused_fault is = cc
+refused_for : {line other : ℕ} {refusal same : Refusal} → FirstRefused line refusal ≡ FirstRefused other same → refusal ≡ same
+refused_for is = cc
 
 one_refusal : (bytes : List ℕ) (line kind other kind' : ℕ) → IsRefused bytes line kind → IsRefused bytes other kind' → BadTrace line kind ≡ BadTrace other kind'
 one_refusal bytes line kind other kind' one two =
-    let same : Refused line one.0 ≡ Refused other two.0 = reads_one forms.Replay bytes _ _ one.1 two.1 in
-    let kinds : kind ≡ kind' = one.2 ∙ ap (λ (f : Fault). kind_of f) (refused_fault same) ∙ sym two.2 in
+    let same : FirstRefused line one.0 ≡ FirstRefused other two.0 = traces_are_clear forms.Replay bytes _ _ one.1 two.1 in
+    let kinds : kind ≡ kind' = one.2 ∙ ap (λ (r : Refusal). refusal_kind r) (refused_for same) ∙ sym two.2 in
     ap (λ (l : ℕ). BadTrace l kind) (refused_line same) ∙ ap (λ (k : ℕ). BadTrace other k) kinds
 
 -- the status that is due is the one that is wanted, or one that may come at any time

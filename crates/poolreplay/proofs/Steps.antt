@@ -21,7 +21,7 @@ use Rattle.plain_pool.specs.Pool.{Stands}
 use Rattle.poolreplay.specs.declared.places.Places.{Places}
 use Rattle.poolreplay.specs.Entries.{listed}
 use Rattle.poolreplay.specs.Names.{Names, request_of, names_after}
-use Rattle.poolreplay.specs.Running.{Going, no_line, judged, lists_made, after_call, call_entry, after_line, after_lines, entry_at, run_entries, with_entry, with_entries, names_kept, StandsFor, IsAt, HasGranted, HasThread}
+use Rattle.poolreplay.specs.Running.{Going, no_line, judged, after_making, after_call, call_entry, after_line, after_lines, entry_at, run_entries, with_entry, with_entries, names_kept, StandsFor, IsAt, HasGranted, HasThread}
 use Rattle.poolreplay.proofs.NameLemmas.{request_same, after_same}
 use Rattle.poolreplay.proofs.Named.{answer_named}
 
@@ -57,11 +57,11 @@ entry_named threads line names call None some = tt
 entry_named threads line names call (Some lists) some = answer_named threads lists (request_of names call) some
 
 -- a pool that a line made has a thread, and granted nothing
-made_thread : (threads : ℕ) → HasThread threads (lists_made (judged threads))
+made_thread : (threads : ℕ) → HasThread threads (after_making (judged threads))
 made_thread zero = tt
 made_thread (suc threads) = omega arith
 
-made_granted : (threads most : ℕ) → HasGranted most (lists_made (judged threads))
+made_granted : (threads most : ℕ) → HasGranted most (after_making (judged threads))
 made_granted zero most = tt
 made_granted (suc threads) most = omega arith
 

@@ -4,6 +4,7 @@ use Rattle.std.specs.List.{list_any}
 use Rattle.std.specs.declared.option.Option.{Option}
 use Rattle.pool_types.specs.declared.values.Answer.{Answer}
 use Rattle.pool_types.specs.declared.values.Leak.{Leak}
+use Rattle.pool_types.specs.Limits.{plain_region_bytes, plain_span}
 use Rattle.pool_types.specs.declared.policy.Limits.{Limits}
 use Rattle.pool_types.specs.declared.policy.CreateError.{CreateError}
 use Rattle.pool_types.specs.declared.policy.CreateError.TheVariants as refusal
@@ -20,7 +21,7 @@ Judged = Result (Unit {0}) CreateError
 
 -- the default limits of a pool for so many threads
 abbrev pub limits_of : ℕ → Limits
-limits_of threads = record { pool = 0; seats = threads; span = 1024; region = 1048576 }
+limits_of threads = record { pool = 0; seats = threads; span = plain_span; region = plain_region_bytes }
 
 -- what a pool's line reports; want of memory ends a replay without a report
 abbrev pub made_entry : ℕ → Judged → Option ReportEntry

@@ -2,4 +2,3 @@ pub mod Entries
 pub mod Names
 pub mod Replay
 pub mod Running
-pub mod Streams

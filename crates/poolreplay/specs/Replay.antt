@@ -1,5 +1,5 @@
 -- What a replay answers and writes.
-use Rattle.std.specs.Prelude.{◌≡◌, ℕ, ◌<◌, ◌≤◌, ◌⊎◌, List, [], ◌∷◌, ◌++◌, codes, length, map, Contains, Some, None, Ok, Err}
+use Rattle.std.specs.Prelude.{◌≡◌, ℕ, ◌+◌, ◌<◌, ◌≤◌, ◌⊎◌, List, [], ◌∷◌, ◌++◌, codes, length, map, Contains, Some, None, Ok, Err}
 use Rattle.std.specs.Fmt.{decimal}
 use Rattle.std.specs.declared.option.Option.{Option}
 use Rattle.std.specs.Io.KnownBytes.{Keeps}
@@ -11,16 +11,17 @@ use Rattle.poolreplay.specs.declared.replay.Output.{Output}
 use Rattle.poolreplay.specs.declared.replay.Output.TheVariants as output
 use Rattle.poolreplay.specs.declared.replay.Status.{Status}
 use Rattle.poolreplay.specs.declared.replay.Status.TheVariants.{Done, BadWords, BadTrace, TooLong, ReadFault, WriteFault, NoMemory}
-use Rattle.poolreplay.specs.Streams.{IsReadWhole, IsReadPast}
+use Rattle.pool_types.specs.Transfers.{IsReadWhole, IsReadPast}
 use Rattle.pool_types.specs.declared.policy.RegionRec.{RegionRec}
 use Rattle.pool_types.specs.Causes.{Rose}
+use Rattle.pool_types.specs.Limits.{most_trace_bytes, plain_region_bytes}
 use Rattle.pool_types.specs.Policies.{Checks}
 use Rattle.pool_types.specs.Script.{IsAnswer}
 use Rattle.pool_types.specs.declared.values.Leak.{Leak}
 use Rattle.pool_types.specs.declared.values.Request.TheVariants.{Malloc}
 use Rattle.machine.specs.Runs.{Event, IsRun}
 use Rattle.part_model.specs.Totals.{totals_of}
-use Rattle.report_text.specs.Pieces.{names_of}
+use Rattle.pool_types.specs.Texts.{names_of}
 use Rattle.report_text.specs.Entries.{report_text}
 use Rattle.report_text.specs.Reports.{ended_text}
 use Rattle.plain_lists.specs.Counts.{ArePlaced}
@@ -53,7 +54,7 @@ pub record IsReplayed (bytes text : List ℕ) : Type 0 where
   pub asked : requests_in events ≡ requests_from no_names trace.lines.items (answers_in events)
   pub answered : answers_in events ≡ answers_to no_lists (requests_in events)
   pub placed : (sizes : List ℕ) → requests_in events ≡ map Malloc sizes → ArePlaced [] sizes (answers_in events)
-  pub region : (region : RegionRec) → Contains (end_of events).regions region → IsAnswer None [] 1048576 (Some region.region)
+  pub region : (region : RegionRec) → Contains (end_of events).regions region → IsAnswer None [] plain_region_bytes (Some region.region)
   pub leaks : List Leak
   pub held : AreLeaks (end_of events).held leaks
   pub listed : leaks ≡ leaks_at (lists_after no_lists (requests_in events))
@@ -85,7 +86,7 @@ abbrev pub IsDue : List (List ℕ) → Option (List ℕ) → Option (List ℕ) �
 IsDue words old new BadWords text = (IsCommand words → ⊥) × Keeps old new × (text ≡ codes "bad words\n")
 IsDue words old new Done text = IsCommand words × ((bytes : List ℕ) × IsReadWhole old new bytes × IsReply bytes Done text)
 IsDue words old new (BadTrace line kind) text = IsCommand words × ((bytes : List ℕ) × IsReadWhole old new bytes × IsReply bytes (BadTrace line kind) text)
-IsDue words old new TooLong text = IsCommand words × IsReadPast old new 4194305 × (text ≡ [])
+IsDue words old new TooLong text = IsCommand words × IsReadPast old new (most_trace_bytes + 1) × (text ≡ [])
 IsDue words old new ReadFault text = IsCommand words × (text ≡ [])
 IsDue words old new WriteFault text = ⊥
 IsDue words old new NoMemory text = text ≡ []
@@ -107,10 +108,10 @@ output_text (output.Whole report) = ended_text report
 
 -- The status that the words and the source's bytes want.
 abbrev pub IsWanted : List (List ℕ) → List ℕ → Status → Type 0
-IsWanted words bytes Done = IsCommand words × (length bytes ≤ 4194304) × ((trace : Trace) × ReadsTrace forms.Replay bytes (Ok trace))
+IsWanted words bytes Done = IsCommand words × (length bytes ≤ most_trace_bytes) × ((trace : Trace) × ReadsTrace forms.Replay bytes (Ok trace))
 IsWanted words bytes BadWords = IsCommand words → ⊥
-IsWanted words bytes (BadTrace line kind) = IsCommand words × (length bytes ≤ 4194304) × IsRefused bytes line kind
-IsWanted words bytes TooLong = IsCommand words × (4194304 < length bytes)
+IsWanted words bytes (BadTrace line kind) = IsCommand words × (length bytes ≤ most_trace_bytes) × IsRefused bytes line kind
+IsWanted words bytes TooLong = IsCommand words × (most_trace_bytes < length bytes)
 IsWanted words bytes ReadFault = ⊥
 IsWanted words bytes WriteFault = ⊥
 IsWanted words bytes NoMemory = ⊥

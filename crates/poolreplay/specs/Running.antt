@@ -17,7 +17,7 @@ use Rattle.report_text.specs.declared.entry.ReportEntry.{ReportEntry}
 use Rattle.report_text.specs.declared.entry.ReportEntry.TheVariants.{Gone, Answered, Total}
 use Rattle.report_text.specs.Reports.{ReportView}
 use Rattle.report_text.specs.Named.{IsNamed}
-use Rattle.report_text.specs.Pieces.{names_of}
+use Rattle.pool_types.specs.Texts.{names_of}
 use Rattle.report_text.specs.Entries.{entry_text, entries_text}
 use Rattle.plain_lists.specs.Lists.{Lists, no_lists}
 use Rattle.plain_lists.specs.Held.{totals_at, leaks_at}
@@ -43,9 +43,9 @@ abbrev pub no_line : Going
 no_line = record { lists = None; names = no_names }
 
 -- the pool's lists after its making was judged so
-abbrev pub lists_made : Judged → Option Lists
-lists_made (Ok done) = Some no_lists
-lists_made (Err refusal) = None
+abbrev pub after_making : Judged → Option Lists
+after_making (Ok done) = Some no_lists
+after_making (Err refusal) = None
 
 -- after a call, where the names stand for these and the pool has these lists
 abbrev pub after_call : Names → TraceCall → Option Lists → Going
@@ -62,7 +62,7 @@ call_entry line names call (Some lists) = Answered line (whole lists (request_of
 
 -- after a line, where there are so many threads
 abbrev pub after_line : ℕ → Going → Act → Going
-after_line threads going (act.Pool number options) = record { lists = lists_made (judged threads); names = going.names }
+after_line threads going (act.Pool number options) = record { lists = after_making (judged threads); names = going.names }
 after_line threads going (act.Call thread number call) = after_call going.names call going.lists
 after_line threads going other = going
 

@@ -1,14 +1,12 @@
 //! Replays a trace of pool calls from standard input, and reports on standard output what each call answered.
 //!
 //! Modules: `replay` (from the command's words and the trace's bytes to the status and the bytes that are written), `run`
-//! (the lines of a trace, one after another), `places` (what the names stand for, and what the calls in the lines ask) and
-//! `streams` (reading a source to its end).
+//! (the lines of a trace, one after another) and `places` (what the names stand for, and what the calls in the lines ask).
 #![tactic(auto)]
 
 mod places;
 mod replay;
 mod run;
-mod streams;
 #[cfg(test)]
 mod tests;
 

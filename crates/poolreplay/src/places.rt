@@ -15,7 +15,7 @@ pub struct Places {
 }
 
 /// The place that a call got, or null.
-fn got_place(answer: Answer) -> Option<Place>
+fn place_got(answer: Answer) -> Option<Place>
     ensures { result ≡ place_got answer }
 {
     match answer {
@@ -61,7 +61,7 @@ impl Places {
     }
 
     /// What the call asks of the pool.
-    pub fn asked(&self, call: &TraceCall) -> Request
+    pub fn request_of(&self, call: &TraceCall) -> Request
         ensures { result ≡ request_of (names_kept self.now) call.now }
     {
         match call {
@@ -109,7 +109,7 @@ impl Places {
             TraceCall::Malloc { name, .. }
             | TraceCall::Aligned { name, .. }
             | TraceCall::Realloc { name, .. }
-            | TraceCall::AlignedRealloc { name, .. } => self.bind(name, got_place(answer)),
+            | TraceCall::AlignedRealloc { name, .. } => self.bind(name, place_got(answer)),
             TraceCall::Free { .. }
             | TraceCall::Msize { .. }
             | TraceCall::Identify { .. }

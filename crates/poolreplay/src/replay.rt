@@ -2,15 +2,14 @@
 ghost use Rattle.std.specs.Prelude.{◌≡◌, ◌≢◌, ◌<◌, ◌⊎◌, ℕ, List, [], length, map, string_bytes, Some, Ok, IfOk, OnOk, OnErr, true, false, codes};
 ghost use Rattle.std.specs.Io.KnownBytes.{Appends};
 ghost use Rattle.pool_types.specs.Causes.{Rose};
-ghost use Rattle.report_text.specs.Writing.{IsWrittenPart};
+ghost use Rattle.pool_types.specs.Transfers.{IsWrittenPart};
 ghost use Rattle.trace_reader.specs.Text.{ReadsTrace};
 ghost use Rattle.poolreplay.specs.Replay.{ComesBut, IsCommand, IsDue, IsReply, IsWanted, output_text, refused_text, status_number};
 ghost use Rattle.poolreplay.specs.declared.replay.Status.{Status};
 
 use crate::run::run_trace;
-use crate::streams::{ReadError, read_all};
-use pool_types::{Failed, Sink, Source};
-use report_text::{Report, write_all, write_report};
+use pool_types::{Failed, ReadError, Sink, Source, read_all, write_all};
+use report_text::{Report, write_report};
 use std::alloc::Global;
 use std::io::{self, Write};
 use trace_reader::{Forms, Trace, TraceError, TraceRefused, read_trace};
@@ -85,7 +84,7 @@ fn is_replay(word: &String) -> bool
 }
 
 /// The text for a refused line.
-fn refused(alloc: Global, error: TraceError) -> io::Result<Vec<u8>>
+fn refused_text(alloc: Global, error: TraceError) -> io::Result<Vec<u8>>
     ensures { IfOk result (λ text. text.items ≡ refused_text error.line error.kind) }
 {
     let mut text = Vec::new(alloc);
@@ -152,7 +151,7 @@ fn reply_to(alloc: Global, bytes: &[u8]) -> Reply
                 line: error.line,
                 kind: error.kind,
             };
-            spoken(alloc, status, refused(alloc, error))
+            spoken(alloc, status, refused_text(alloc, error))
         }
         Err(TraceRefused::NoMemory) => silent(alloc, Status::NoMemory),
     }

@@ -1,14 +1,16 @@
 //! Runs the lines of a trace, one after another. This project's own.
 ghost use Rattle.std.specs.Prelude.{◌≡◌, ℕ, ◌≤◌, ◌<◌, ◌-◌, ◌^◌, List, Some, None, IfOk, OnOk, All, length, map};
+ghost use Rattle.pool_types.specs.Limits.{most_lines, most_seats};
 ghost use Rattle.plain_lists.specs.Lists.{Lists};
 ghost use Rattle.plain_lists.specs.Whole.{IsServed, whole};
 ghost use Rattle.plain_pool.specs.Pool.{Stands};
 ghost use Rattle.poolreplay.specs.Entries.{made_entry, leaked};
 ghost use Rattle.poolreplay.specs.Names.{no_names, request_of, names_after};
-ghost use Rattle.poolreplay.specs.Running.{Going, no_line, judged, lists_made, names_kept, after_call, after_line, after_lines, call_entry, entry_at, with_entry, with_entries, held_entries, run_entries, run_report, IsAt, StandsFor, IsServedLine, HasGranted, HasThread, IsEntryNamed, IsLeakNamed};
+ghost use Rattle.poolreplay.specs.Running.{Going, no_line, judged, after_making, names_kept, after_call, after_line, after_lines, call_entry, entry_at, with_entry, with_entries, held_entries, run_entries, run_report, IsAt, StandsFor, IsServedLine, HasGranted, HasThread, IsEntryNamed, IsLeakNamed};
 
 use crate::places::Places;
 use plain_pool::Pool;
+use pool_types::limits::{PLAIN_REGION_BYTES, PLAIN_SPAN};
 use pool_types::{Answer, CreateError, Leak, Limits, Policy, check};
 use report_text::{NoMemory, Report, ReportEntry};
 use std::alloc::{AllocError, Global};
@@ -23,8 +25,8 @@ pub struct Run {
 }
 
 /// How the making of the pool of a line `pool P0 fixed` is judged, for so many threads.
-fn judge(threads: u8) -> Result<(), CreateError>
-    requires { threads ≤ 64 }
+fn judged(threads: u8) -> Result<(), CreateError>
+    requires { threads ≤ most_seats }
     ensures { result ≡ judged threads }
 {
     let policy = Policy {
@@ -39,15 +41,15 @@ fn judge(threads: u8) -> Result<(), CreateError>
     let limits = Limits {
         pool: 0,
         seats: threads,
-        span: 1024,
-        region: 1048576,
+        span: PLAIN_SPAN,
+        region: PLAIN_REGION_BYTES,
     };
     check(&policy, &limits)
 }
 
 /// The pool whose making was judged so.
 fn pool_of(alloc: Global, verdict: Result<(), CreateError>) -> Result<Option<Pool>, AllocError>
-    ensures { IfOk result (λ pool. StandsFor pool (lists_made verdict)) }
+    ensures { IfOk result (λ pool. StandsFor pool (after_making verdict)) }
 {
     match verdict {
         Ok(()) => Ok(Some(Pool::new(alloc)?)),
@@ -56,7 +58,7 @@ fn pool_of(alloc: Global, verdict: Result<(), CreateError>) -> Result<Option<Poo
 }
 
 /// What the pool's line reports, where its making was judged so.
-fn entry_of(line: u32, verdict: Result<(), CreateError>) -> Option<ReportEntry>
+fn made_entry(line: u32, verdict: Result<(), CreateError>) -> Option<ReportEntry>
     ensures { result ≡ made_entry line verdict }
 {
     match verdict {
@@ -76,7 +78,7 @@ fn call_pool(pool: &mut Pool, places: &mut Places, call: &TraceCall) -> Result<A
     ensures names { IfOk result (λ answer. (word : List ℕ) → names_kept places.new word ≡ names_after (names_kept places.old) call.now answer word) }
     ensures answer { IfOk result (λ answer. (lists : Lists) → Stands pool.old lists → answer ≡ (whole lists (request_of (names_kept places.old) call.now)).answer) }
 {
-    let answer = pool.call(places.asked(call));
+    let answer = pool.call(places.request_of(call));
     places.answered(call, answer)?;
     Ok(answer)
 }
@@ -120,17 +122,17 @@ fn add_held(alloc: Global, report: &mut Report, pool: &Pool) -> Result<(), NoMem
 impl Run {
     /// Makes the pool, where that is allowed, and reports how its making was judged.
     fn make(&mut self, alloc: Global, threads: u8, line: u32) -> Result<(), NoMemory>
-        requires few { threads ≤ 64 }
+        requires few { threads ≤ most_seats }
         requires named { length self.old.report.names ≡ threads }
-        ensures going { OnOk result ((going : Going) → IsAt self.old.pool self.old.places going → IsAt self.new.pool self.new.places (record { lists = lists_made (judged threads); names = going.names })) }
+        ensures going { OnOk result ((going : Going) → IsAt self.old.pool self.old.places going → IsAt self.new.pool self.new.places (record { lists = after_making (judged threads); names = going.names })) }
         ensures report { OnOk result (self.new.report ≡ with_entry self.old.report (made_entry line (judged threads))) }
     {
-        let verdict = judge(threads);
+        let verdict = judged(threads);
         let Ok(pool) = pool_of(alloc, verdict) else {
             return Err(NoMemory);
         };
         self.pool = pool;
-        add_entry(alloc, &mut self.report, entry_of(line, verdict))
+        add_entry(alloc, &mut self.report, made_entry(line, verdict))
     }
 
     /// What a call reports. A pool that was not made is gone.
@@ -152,7 +154,7 @@ impl Run {
 
     /// Runs a line.
     fn step(&mut self, alloc: Global, threads: u8, line: &TraceLine) -> Result<(), NoMemory>
-        requires few { threads ≤ 64 }
+        requires few { threads ≤ most_seats }
         requires served { IsServedLine line.now }
         requires named { length self.old.report.names ≡ threads }
         requires going { (going : Going) × IsAt self.old.pool self.old.places going × HasGranted (2 ^ 55 - 2) going.lists × HasThread threads going.lists }
@@ -170,7 +172,7 @@ impl Run {
     }
 
     /// What all its lines came to, and then what its pool holds.
-    fn finished(self, alloc: Global) -> Result<Report, NoMemory>
+    fn into_report(self, alloc: Global) -> Result<Report, NoMemory>
         requires { (going : Going) × IsAt self.pool self.places going × HasThread (length self.report.names) going.lists }
         ensures { IfOk result (λ report. (going : Going) → IsAt self.pool self.places going → report ≡ with_entries self.report (held_entries going.lists)) }
     {
@@ -188,9 +190,9 @@ impl Run {
 
 /// Runs the lines one after another.
 fn run_lines(alloc: Global, run: &mut Run, threads: u8, lines: &[TraceLine]) -> Result<(), NoMemory>
-    requires few { threads ≤ 64 }
+    requires few { threads ≤ most_seats }
     requires served { All IsServedLine lines.now }
-    requires short { length lines.now ≤ 65536 }
+    requires short { length lines.now ≤ most_lines }
     requires named { length run.old.report.names ≡ threads }
     requires fresh { IsAt run.old.pool run.old.places no_line }
     ensures going { OnOk result (IsAt run.new.pool run.new.places (after_lines threads no_line lines.now)) }
@@ -206,7 +208,7 @@ fn run_lines(alloc: Global, run: &mut Run, threads: u8, lines: &[TraceLine]) -> 
 /// Runs the lines of a trace, and reports what they come to. The calls in the lines are served.
 pub fn run_trace(alloc: Global, trace: &Trace) -> Result<Report, NoMemory>
     requires served { All IsServedLine trace.now.lines.items }
-    requires short { length trace.now.lines.items ≤ 65536 }
+    requires short { length trace.now.lines.items ≤ most_lines }
     ensures { IfOk result (λ report. report ≡ run_report trace.now) }
 {
     let threads = trace.names.len() as u8;
@@ -216,5 +218,5 @@ pub fn run_trace(alloc: Global, trace: &Trace) -> Result<Report, NoMemory>
         report: Report::make(alloc, trace)?,
     };
     run_lines(alloc, &mut run, threads, trace.lines())?;
-    run.finished(alloc)
+    run.into_report(alloc)
 }

@@ -4,12 +4,12 @@ use Rattle.std.proofs.lemmas.Bool.{cases_lt}
 use Rattle.pool_types.specs.declared.policy.RegionRec.{RegionRec}
 use Rattle.regions.specs.declared.errors.ObtainError.{ObtainError}
 use Rattle.regions.specs.declared.errors.ObtainError.TheVariants.{HasRegion, RegionsFull, SpanFull, RawFailed}
-use Rattle.regions.specs.Indices.{IsLongestRun}
-use Rattle.regions.specs.Numbers.{IsNext, is_slot_taken, is_full}
+use Rattle.regions.specs.Gaps.{IsLongestGap}
+use Rattle.regions.specs.Numbers.{IsNextNumber, is_slot_taken, is_full}
 use Rattle.regions.specs.Obtaining.{IsFull, HasNumber, CanAsk, IsRefused, has_region}
 use Rattle.regions.specs.Offices.{Desk}
 
-no_lower : (records : List RegionRec) (counter one other : ℕ) → IsNext records counter one → IsNext records counter other → one < other → ⊥
+no_lower : (records : List RegionRec) (counter one other : ℕ) → IsNextNumber records counter one → IsNextNumber records counter other → one < other → ⊥
 no_lower records counter one other first second less = omega (arith, first.none all, second.none all)
   where
     any : (number : ℕ) (b : Bool) → is_slot_taken records number ≡ b → is_slot_taken records number ≡ true
@@ -20,7 +20,7 @@ no_lower records counter one other first second less = omega (arith, first.none 
     all number = any number (is_slot_taken records number) refl
 
 -- there is one next number
-pub next_same : (records : List RegionRec) (counter one other : ℕ) → IsNext records counter one → IsNext records counter other → one ≡ other
+pub next_same : (records : List RegionRec) (counter one other : ℕ) → IsNextNumber records counter one → IsNextNumber records counter other → one ≡ other
 next_same records counter one other first second = by_cases (cases_lt one other) (cases_lt other one)
   where
     by_cases : (one < other) ⊎ (other ≤ one) → (other < one) ⊎ (one ≤ other) → one ≡ other
@@ -28,9 +28,9 @@ next_same records counter one other first second = by_cases (cases_lt one other)
     by_cases less (inl more) = absurd (no_lower records counter other one second first more)
     by_cases (inr more) (inr less) = omega arith
 
--- there is one length of the longest runs
-pub longest_same : (span : ℕ) (records : List RegionRec) (start count other many : ℕ) → IsLongestRun span records start count → IsLongestRun span records other many → count ≡ many
-longest_same span records start count other many first second = omega (arith, first.longest other many second.run, second.longest start count first.run)
+-- there is one length of the longest gaps
+pub longest_same : (span : ℕ) (records : List RegionRec) (start count other many : ℕ) → IsLongestGap span records start count → IsLongestGap span records other many → count ≡ many
+longest_same span records start count other many first second = omega (arith, first.longest other many second.gap, second.longest start count first.gap)
 
 module _ {R : Type 0} (desk : Desk R) (granules : ℕ) where
   true_false : (b : Bool) → b ≡ true → b ≡ false → ⊥

@@ -11,10 +11,10 @@ use Rattle.std.proofs.lemmas.List.Folds.{list_any_at}
 use Rattle.std.proofs.lemmas.List.Quantifiers.{all_pairs_push}
 use Rattle.pool_types.specs.declared.policy.RegionRec.{RegionRec}
 use Rattle.pool_types.specs.declared.values.Region.{Region}
-use Rattle.pool_types.specs.Regions.{meets, IsFresh}
-use Rattle.regions.specs.Indices.{has_index, IsFreeRun}
+use Rattle.pool_types.specs.Regions.{overlaps, IsFresh}
+use Rattle.regions.specs.Gaps.{has_index, IsGap}
 use Rattle.regions.specs.Obtaining.{HasNumber}
-use Rattle.regions.specs.Offices.{Desk, desk_of, IsSound, IsLawful, AreApart}
+use Rattle.regions.specs.Offices.{Desk, desk_of, IsSound, IsWellPlaced, AreApart}
 use Rattle.regions.specs.Placing.{IsPlaced, IsWhole, IsCut, IsRecord, parity_of, whole_granules}
 use Rattle.regions.proofs.SlotLemmas.{next_free}
 
@@ -29,15 +29,15 @@ not_at p xs k d below none = by_value (p (get_or xs k d)) refl
 -- what a placing comes to: the indices are free and of the parity, and no more granules than there are
 pub record IsSeated (span : ℕ) (records : List RegionRec) (parity whole first granules : ℕ) : Type 0 where
   pub even_or_odd : first % 2 ≡ parity
-  pub run : IsFreeRun span records first (granules + 1)
+  pub gap : IsGap span records first (granules + 1)
   pub most : granules ≤ whole
 
 seated_whole : (span : ℕ) (records : List RegionRec) (parity whole first granules : ℕ) → IsWhole span records parity whole first granules → IsSeated span records parity whole first granules
 seated_whole span records parity whole first granules place = record {
   even_or_odd = place.fits.even_or_odd;
-  run = record {
-    within = omega (arith, place.all, place.fits.run.within);
-    free = λ index from below. place.fits.run.free index from (omega (arith, place.all));
+  gap = record {
+    within = omega (arith, place.all, place.fits.gap.within);
+    free = λ index from below. place.fits.gap.free index from (omega (arith, place.all));
   };
   most = omega (arith, place.all);
 }
@@ -45,21 +45,21 @@ seated_whole span records parity whole first granules place = record {
 seated_cut : (span : ℕ) (records : List RegionRec) (parity whole first granules : ℕ) → IsCut span records parity whole first granules → IsSeated span records parity whole first granules
 seated_cut span records parity whole first granules place = record {
   even_or_odd = place.even_or_odd;
-  run = run;
+  gap = gap;
   most = most_at (cases_lt whole granules);
 }
   where
-    run : IsFreeRun span records first (granules + 1)
-    run = record {
-      within = omega (arith, place.ends, place.longest.run.within);
-      free = λ index from below. place.longest.run.free index (omega (arith, place.from)) (omega (arith, place.ends));
+    gap : IsGap span records first (granules + 1)
+    gap = record {
+      within = omega (arith, place.ends, place.longest.gap.within);
+      free = λ index from below. place.longest.gap.free index (omega (arith, place.from)) (omega (arith, place.ends));
     }
 
     most_at : (whole < granules) ⊎ (granules ≤ whole) → granules ≤ whole
     most_at (inr less) = less
     most_at (inl more) = absurd (place.nowhere first (record {
       even_or_odd = place.even_or_odd;
-      run = record { within = omega (arith, run.within); free = λ index from below. run.free index from (omega arith) };
+      gap = record { within = omega (arith, gap.within); free = λ index from below. gap.free index from (omega arith) };
     }))
 
 pub seated : (span : ℕ) (records : List RegionRec) (parity whole first granules : ℕ) → IsPlaced span records parity whole first granules → IsSeated span records parity whole first granules
@@ -71,28 +71,28 @@ pub room_for : (bytes waste granules : ℕ) → waste < 8192 → 8192 ≤ bytes 
 room_for bytes waste granules small least most = omega arith
 
 -- the record is lawful
-lawful : (span : ℕ) (records : List RegionRec) (one : RegionRec) → IsRecord span records one → 8192 ≤ one.region.bytes → IsLawful span (one.number + 1) one
+lawful : (span : ℕ) (records : List RegionRec) (one : RegionRec) → IsRecord span records one → 8192 ≤ one.region.bytes → IsWellPlaced span (one.number + 1) one
 lawful span records one is_record least =
     let place : IsSeated span records (parity_of one) (whole_granules one) one.first one.granules = seated span records (parity_of one) (whole_granules one) one.first one.granules is_record.placed in
     record {
       used = omega arith;
-      within = omega (arith, place.run.within);
+      within = omega (arith, place.gap.within);
       even_or_odd = place.even_or_odd;
       aligned = is_record.aligned;
       some = least;
       room = room_for one.region.bytes one.waste one.granules is_record.aligned.least least place.most;
     }
 
--- no region has an index of a free run
-spans_apart : (span : ℕ) (records : List RegionRec) (first granules : ℕ) → IsFreeRun span records first (granules + 1) → (k : ℕ) (d : RegionRec) → k < length records →
+-- no region has an index of a gap
+spans_apart : (span : ℕ) (records : List RegionRec) (first granules : ℕ) → IsGap span records first (granules + 1) → (k : ℕ) (d : RegionRec) → k < length records →
     ((get_or records k d).first + (get_or records k d).granules < first) ⊎ (first + granules < (get_or records k d).first)
-spans_apart span records first granules run k d below = at (get_or records k d) refl
+spans_apart span records first granules gap k d below = at (get_or records k d) refl
   where
     at : (one : RegionRec) → get_or records k d ≡ one → (one.first + one.granules < first) ⊎ (first + granules < one.first)
     at one is = by_cases (cases_lt (one.first + one.granules) first) (cases_lt (first + granules) one.first)
       where
         free_at : (index : ℕ) → first ≤ index → index < first + (granules + 1) → has_index one index ≡ false
-        free_at index from to = ap (λ x. has_index x index) (sym is) ∙ not_at (λ x. has_index x index) records k d below (run.free index from to)
+        free_at index from to = ap (λ x. has_index x index) (sym is) ∙ not_at (λ x. has_index x index) records k d below (gap.free index from to)
 
         by_cases : (one.first + one.granules < first) ⊎ (first ≤ one.first + one.granules) → (first + granules < one.first) ⊎ (one.first ≤ first + granules) →
             (one.first + one.granules < first) ⊎ (first + granules < one.first)
@@ -122,7 +122,7 @@ module _ {R : Type 0} (out : R → List Region) (old : Desk R) (one : RegionRec)
       record {
         numbers = omega (arith, (sound.each k d below).used, numbered.next_is.from);
         slots = λ same. other_slot same;
-        spans = spans_apart old.limits.span old.records one.first one.granules place.run k d below;
+        spans = spans_apart old.limits.span old.records one.first one.granules place.gap k d below;
         bytes = not_met;
       }
     where
@@ -131,11 +131,11 @@ module _ {R : Type 0} (out : R → List Region) (old : Desk R) (one : RegionRec)
           let free : ((get_or old.records k d).number % 64 == one.number % 64) ≡ false = not_at (λ x. x.number % 64 == one.number % 64) old.records k d below (next_free old.records old.counter one.number numbered.next_is few) in
           grind (arith, nat_tests)
 
-      not_met : meets (get_or old.records k d).region one.region ≡ false
+      not_met : overlaps (get_or old.records k d).region one.region ≡ false
       not_met =
           let same : get_or (out old.raw) k d.region ≡ (get_or old.records k d).region = ap (λ xs. get_or xs k d.region) sound.regions ∙ get_or-map (λ x. x.region) old.records k d d.region below in
           let inside : k < length (out old.raw) = rw (sound.regions, length-map) below in
-          ap (λ x. meets x one.region) (sym same) ∙ not_at (λ x. meets x one.region) (out old.raw) k d.region inside fresh.apart
+          ap (λ x. overlaps x one.region) (sym same) ∙ not_at (λ x. overlaps x one.region) (out old.raw) k d.region inside fresh.apart
 
   pub grown : out raw ≡ out old.raw ++ one.region ∷ [] → IsSound out (desk_of old.policy old.limits (old.records ++ one ∷ []) (one.number + 1) true raw)
   grown out_grows = record {
@@ -143,14 +143,14 @@ module _ {R : Type 0} (out : R → List Region) (old : Desk R) (one : RegionRec)
     regions = out_grows ∙ ap (λ xs. xs ++ one.region ∷ []) sound.regions ∙ sym (map-append (λ x. x.region) old.records (one ∷ []));
     most = grind (arith, common_steps, few);
     numbers = omega (arith, low);
-    each = All-append (IsLawful old.limits.span (one.number + 1)) old.records (one ∷ []) still new_one;
+    each = All-append (IsWellPlaced old.limits.span (one.number + 1)) old.records (one ∷ []) still new_one;
     pairs = all_pairs_push AreApart old.records one sound.pairs apart_from;
     before = λ same. absurd (cc);
     one = first_one;
   }
     where
-      still : All (IsLawful old.limits.span (one.number + 1)) old.records
-      still k d below = let had : IsLawful old.limits.span old.counter (get_or old.records k d) = sound.each k d below in record {
+      still : All (IsWellPlaced old.limits.span (one.number + 1)) old.records
+      still k d below = let had : IsWellPlaced old.limits.span old.counter (get_or old.records k d) = sound.each k d below in record {
         used = omega (arith, had.used, numbered.next_is.from);
         within = had.within;
         even_or_odd = had.even_or_odd;
@@ -159,8 +159,8 @@ module _ {R : Type 0} (out : R → List Region) (old : Desk R) (one : RegionRec)
         room = had.room;
       }
 
-      new_one : All (IsLawful old.limits.span (one.number + 1)) (one ∷ [])
-      new_one = All-cons (IsLawful old.limits.span (one.number + 1)) one [] (lawful old.limits.span old.records one is_record (omega (arith, fresh.room))) (All-nil (IsLawful old.limits.span (one.number + 1)))
+      new_one : All (IsWellPlaced old.limits.span (one.number + 1)) (one ∷ [])
+      new_one = All-cons (IsWellPlaced old.limits.span (one.number + 1)) one [] (lawful old.limits.span old.records one is_record (omega (arith, fresh.room))) (All-nil (IsWellPlaced old.limits.span (one.number + 1)))
 
       first_one : old.policy.fixed ≡ true → length (old.records ++ one ∷ []) ≤ 1
       first_one fixed =

@@ -1,5 +1,5 @@
 pub mod Exact
 pub mod Growing
-pub mod RunLemmas
+pub mod GapLemmas
 pub mod Shrinking
 pub mod SlotLemmas

@@ -10,12 +10,12 @@ use Rattle.std.proofs.lemmas.List.Quantifiers.{all_pairs_remove}
 use Rattle.std.proofs.Math.Seq.{get_or-append_seam}
 use Rattle.pool_types.specs.declared.policy.RegionRec.{RegionRec}
 use Rattle.pool_types.specs.declared.values.Region.{Region}
-use Rattle.pool_types.specs.Regions.{meets, Loses}
-use Rattle.regions.specs.Offices.{Desk, desk_of, IsSound, IsLawful, AreApart, regions_of}
+use Rattle.pool_types.specs.Regions.{overlaps, Loses}
+use Rattle.regions.specs.Offices.{Desk, desk_of, IsSound, IsWellPlaced, AreApart, regions_of}
 
--- a region with a byte meets itself
-meets_itself : (one : Region) → 1 ≤ one.bytes → meets one one ≡ true
-meets_itself one some = grind (arith, nat_tests)
+-- a region with a byte overlaps itself
+overlaps_itself : (one : Region) → 1 ≤ one.bytes → overlaps one one ≡ true
+overlaps_itself one some = grind (arith, nat_tests)
 
 -- a list loses the element at a place where it has that region
 pub record IsLostAt (old new : List Region) (one : Region) : Type 0 where
@@ -51,9 +51,9 @@ module _ {R : Type 0} (out : R → List Region) (old : Desk R) (raw : R) (place 
       by_cases : (k < place) ⊎ (place ≤ k) → (place < k) ⊎ (k ≤ place) → k ≡ place
       by_cases (inr more) (inr less) = omega arith
       by_cases (inl before) other =
-          met (sym (meets_itself one.region (omega (arith, some))) ∙ ap (λ x. meets x one.region) (sym same) ∙ ap (λ x. meets (get_or old.records k one).region x.region) (sym there) ∙ (sound.pairs k place one before below).bytes)
+          met (sym (overlaps_itself one.region (omega (arith, some))) ∙ ap (λ x. overlaps x one.region) (sym same) ∙ ap (λ x. overlaps (get_or old.records k one).region x.region) (sym there) ∙ (sound.pairs k place one before below).bytes)
       by_cases other (inl after) =
-          met (sym (meets_itself one.region (omega (arith, some))) ∙ ap (λ x. meets x.region one.region) (sym there) ∙ ap (λ x. meets (get_or old.records place one).region x) (sym same) ∙ (sound.pairs place k one after inside).bytes)
+          met (sym (overlaps_itself one.region (omega (arith, some))) ∙ ap (λ x. overlaps x.region one.region) (sym there) ∙ ap (λ x. overlaps (get_or old.records place one).region x) (sym same) ∙ (sound.pairs place k one after inside).bytes)
 
   homes : out raw ≡ regions_of (remove old.records place)
   homes =
@@ -69,9 +69,9 @@ module _ {R : Type 0} (out : R → List Region) (old : Desk R) (raw : R) (place 
     regions = homes;
     most = omega (arith, length-remove old.records place below, sound.most);
     numbers = sound.numbers;
-    each = All-append (IsLawful old.limits.span old.counter) (take place old.records) (drop (suc place) old.records)
-        (All-take (IsLawful old.limits.span old.counter) place old.records sound.each)
-        (All-drop (IsLawful old.limits.span old.counter) (suc place) old.records sound.each);
+    each = All-append (IsWellPlaced old.limits.span old.counter) (take place old.records) (drop (suc place) old.records)
+        (All-take (IsWellPlaced old.limits.span old.counter) place old.records sound.each)
+        (All-drop (IsWellPlaced old.limits.span old.counter) (suc place) old.records sound.each);
     pairs = all_pairs_remove AreApart old.records place below sound.pairs;
     before = λ never. absurd (omega (arith, ap length (sound.before never)));
     one = λ fixed. omega (arith, length-remove old.records place below, sound.one fixed);

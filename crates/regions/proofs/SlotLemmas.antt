@@ -6,7 +6,7 @@ use Rattle.std.proofs.lemmas.Map.Views.{any-filter_same}
 use Rattle.std.specs.Prelude.{◌==◌, ◌&&◌, filter}
 use Rattle.std.specs.List.{list_any}
 use Rattle.pool_types.specs.declared.policy.RegionRec.{RegionRec}
-use Rattle.regions.specs.Numbers.{is_slot_taken, IsNext}
+use Rattle.regions.specs.Numbers.{is_slot_taken, IsNextNumber}
 
 abbrev same_slot : ℕ → RegionRec → Bool
 same_slot number one = one.number % 64 == number % 64
@@ -46,7 +46,7 @@ all_taken records counter taken number =
     same_for records number (counter + (number + 64 - counter % 64) % 64) (omega arith) ∙ taken (counter + (number + 64 - counter % 64) % 64) (omega arith) (omega arith)
 
 -- where fewer than 64 regions are out, the next number has a free slot
-pub next_free : (records : List RegionRec) (counter next : ℕ) → IsNext records counter next → length records < 64 → is_slot_taken records next ≡ false
+pub next_free : (records : List RegionRec) (counter next : ℕ) → IsNextNumber records counter next → length records < 64 → is_slot_taken records next ≡ false
 next_free records counter next next_is few = by_value (is_slot_taken records next) refl
   where
     any : is_slot_taken records next ≡ true → (number : ℕ) (b : Bool) → is_slot_taken records number ≡ b → is_slot_taken records number ≡ true
@@ -58,7 +58,7 @@ next_free records counter next next_is few = by_value (is_slot_taken records nex
     by_value true is = let all : 64 ≤ length records = taken_slots 64 records 0 (omega arith) (λ k below. any is (0 + k) (is_slot_taken records (0 + k)) refl) in absurd (omega arith)
 
 -- where 64 numbers in a row have taken slots, the next number is the counter
-pub counter_next : (records : List RegionRec) (counter : ℕ) → ((k : ℕ) → counter ≤ k → k < counter + 64 → is_slot_taken records k ≡ true) → IsNext records counter counter
+pub counter_next : (records : List RegionRec) (counter : ℕ) → ((k : ℕ) → counter ≤ k → k < counter + 64 → is_slot_taken records k ≡ true) → IsNextNumber records counter counter
 counter_next records counter taken = record {
   from = omega arith;
   least = λ number from below. absurd (omega arith);

@@ -1,12 +1,13 @@
 -- What an office asks its callback for.
-use Rattle.std.specs.Prelude.{ℕ, ◌+◌, ◌*◌, ◌/◌, max, if◌then◌else◌}
+use Rattle.std.specs.Prelude.{ℕ, ◌+◌, ◌*◌, max, if◌then◌else◌}
 use Rattle.pool_types.specs.declared.policy.Policy.{Policy}
 use Rattle.pool_types.specs.declared.policy.Limits.{Limits}
+use Rattle.pool_types.specs.Geometry.{granule_bytes, granules_of}
 use Rattle.pool_types.specs.Policies.{align_up, granularity_of}
 
 -- room for so many granules and two more, but no less than the least region; a fixed pool asks for the least region
 abbrev pub wanted_bytes : Policy → Limits → ℕ → ℕ
-wanted_bytes policy limits granules = if policy.fixed then limits.region else max limits.region ((granules + 2) * 8192)
+wanted_bytes policy limits granules = if policy.fixed then limits.region else max limits.region ((granules + 2) * granule_bytes)
 
 -- the bytes asked, a multiple of the granularity
 abbrev pub asked_bytes : Policy → Limits → ℕ → ℕ
@@ -14,4 +15,4 @@ asked_bytes policy limits granules = align_up (wanted_bytes policy limits granul
 
 -- the indices that so many bytes may need: the granules that they may touch, a wall, and one for the parity
 abbrev pub asked_indices : ℕ → ℕ
-asked_indices bytes = (bytes + 8191) / 8192 + 2
+asked_indices bytes = granules_of bytes + 2

@@ -1,5 +1,5 @@
 pub mod Asking
-pub mod Indices
+pub mod Gaps
 pub mod Numbers
 pub mod Obtaining
 pub mod Offices

@@ -8,8 +8,8 @@ use Rattle.pool_types.specs.Regions.{IsFresh, Loses}
 use Rattle.regions.specs.declared.errors.ObtainError.{ObtainError}
 use Rattle.regions.specs.declared.errors.ObtainError.TheVariants.{HasRegion, RegionsFull, SpanFull, RawFailed}
 use Rattle.regions.specs.Asking.{asked_bytes, asked_indices}
-use Rattle.regions.specs.Indices.{IsLongestRun}
-use Rattle.regions.specs.Numbers.{IsNext, is_full}
+use Rattle.regions.specs.Gaps.{IsLongestGap}
+use Rattle.regions.specs.Numbers.{IsNextNumber, is_full}
 use Rattle.regions.specs.Placing.{IsRecord}
 use Rattle.regions.specs.Offices.{Desk, desk_of}
 
@@ -30,30 +30,30 @@ module _ {R : Type 0} where
   pub record IsFull (desk : Desk R) (out next : ℕ) : Type 0 where
     pub may : has_region desk ≡ false
     pub count : out ≡ length desk.records
-    pub next_is : IsNext desk.records desk.counter next
+    pub next_is : IsNextNumber desk.records desk.counter next
     pub full : is_full out next ≡ true
 
   -- one more region can have this number
   pub record HasNumber (desk : Desk R) (number : ℕ) : Type 0 where
     pub may : has_region desk ≡ false
-    pub next_is : IsNext desk.records desk.counter number
+    pub next_is : IsNextNumber desk.records desk.counter number
     pub open_is : is_full (length desk.records) number ≡ false
 
-  -- the longest free run is shorter than what is asked
+  -- the longest gap is shorter than what is asked
   pub record IsSpanFull (desk : Desk R) (granules asked greatest : ℕ) : Type 0 where
     pub number : ℕ
     pub numbered : HasNumber desk number
     pub asked_is : asked ≡ asked_indices (bytes_for desk granules)
     pub start : ℕ
-    pub longest : IsLongestRun desk.limits.span desk.records start greatest
+    pub longest : IsLongestGap desk.limits.span desk.records start greatest
     pub short : greatest < asked
 
-  -- one more region can have this number, and the longest free run is no shorter than what is asked
+  -- one more region can have this number, and the longest gap is no shorter than what is asked
   pub record CanAsk (desk : Desk R) (granules number : ℕ) : Type 0 where
     pub numbered : HasNumber desk number
     pub start : ℕ
     pub greatest : ℕ
-    pub longest : IsLongestRun desk.limits.span desk.records start greatest
+    pub longest : IsLongestGap desk.limits.span desk.records start greatest
     pub enough : asked_indices (bytes_for desk granules) ≤ greatest
 
   -- why the callback is not asked
@@ -95,11 +95,11 @@ module _ {R : Type 0} (out : R → List Region) (faults : R → ℕ) (got : R �
 pub record Gives {R : Type 0} (out : R → List Region) (faults : R → ℕ) (passed : R → Region → Bool → R → Type 0)
     (old : Desk R) (first : ℕ) (answer : Bool) (new : Desk R) : Type 0 where
   pub one : RegionRec
-  pub place : ℕ
-  pub below : place < length old.records
-  pub there : slice_index_or old.records place one ≡ one
+  pub position : ℕ
+  pub below : position < length old.records
+  pub there : slice_index_or old.records position one ≡ one
   pub starts : one.first ≡ first
   pub answered : passed old.raw one.region answer new.raw
   pub out_shrinks : Loses (out old.raw) one.region (out new.raw)
   pub cause : HasCauseOfFalse (faults old.raw) (faults new.raw) answer
-  pub after : new ≡ record old { records = remove old.records place; raw = new.raw }
+  pub after : new ≡ record old { records = remove old.records position; raw = new.raw }

@@ -5,9 +5,9 @@
 pub enum ObtainError {
     /// The policy is fixed, and a region came before, even if it was given back since.
     HasRegion,
-    /// 64 regions are out, or the next number is not below 4194304.
+    /// As many regions are out as can be, or the next number is not one that a region can have.
     RegionsFull { out: u32, next: u32 },
-    /// The longest run of free indices, which has `greatest`, is shorter than the `asked` that a region may need.
+    /// The longest gap, which has `greatest` free indices, is shorter than the `asked` that a region may need.
     SpanFull { asked: u32, greatest: u32 },
     /// The callback gave nothing.
     RawFailed,

@@ -1,11 +1,13 @@
 //! The number that the next region gets.
 ghost use Rattle.std.specs.Prelude.{◌≡◌, ◌<◌, ◌≤◌, length};
-ghost use Rattle.regions.specs.Numbers.{IsNext, is_slot_taken};
+ghost use Rattle.pool_types.specs.Limits.{region_numbers};
+ghost use Rattle.regions.specs.Numbers.{IsNextNumber, is_slot_taken};
 
 use pool_types::RegionRec;
+use pool_types::limits::MOST_REGIONS;
 
-/// How many regions can be out at a time. The slot of a region is its number modulo this.
-pub const MOST_REGIONS: u32 = 64;
+/// How many slots there are: one for each region that can be out. The slot of a region is its number modulo this.
+const SLOTS: u32 = MOST_REGIONS as u32;
 
 /// Whether a region has a number of this number's slot.
 fn is_slot_taken(records: &[RegionRec], number: u32) -> bool
@@ -13,15 +15,15 @@ fn is_slot_taken(records: &[RegionRec], number: u32) -> bool
 {
     records
         .iter()
-        .any(|one| one.number % MOST_REGIONS == number % MOST_REGIONS)
+        .any(|one| one.number % SLOTS == number % SLOTS)
 }
 
 /// The least number from the counter on whose slot is free, or the counter where no slot is free.
 pub fn next_number(records: &[RegionRec], counter: u32) -> u32
-    requires { counter ≤ 4194304 }
-    ensures { IsNext records.now counter result }
+    requires { counter ≤ region_numbers }
+    ensures { IsNextNumber records.now counter result }
 {
-    for number in counter..counter + MOST_REGIONS {
+    for number in counter..counter + SLOTS {
         if !is_slot_taken(records, number) {
             return number;
         }

@@ -4,37 +4,35 @@ ghost use Rattle.std.specs.List.{list_any};
 ghost use Rattle.pool_types.specs.Policies.{IsAllowed};
 ghost use Rattle.pool_types.specs.declared.policy.RegionRec.{RegionRec};
 
-use crate::asking::{bytes_for, indices_for};
+use crate::asking::{asked_bytes, asked_indices};
 use crate::errors::ObtainError;
-use crate::numbers::{MOST_REGIONS, next_number};
+use crate::gaps::{Gap, longest_gap};
+use crate::numbers::next_number;
 use crate::placing::record_of;
-use crate::runs::{Run, longest_run};
 use arrayvec::ArrayVec;
+use pool_types::limits::{MOST_REGIONS, REGION_NUMBERS};
 use pool_types::{Limits, Policy, Raw, RegionRec};
 use std::marker::Model;
 
-/// Numbers of regions end below this.
-const NUMBERS_END: u32 = 4194304;
-
-/// What is asked of the callback: so many bytes, for the region that gets this number, which the longest free run has
+/// What is asked of the callback: so many bytes, for the region that gets this number, which the longest gap has
 /// room for.
 #[derive(Clone, Copy)]
 struct Asking {
     number: u32,
     bytes: u64,
-    longest: Run,
+    longest: Gap,
 }
 
 /// Keeps the records of the regions that a pool has got from its callback and not given back, by number.
 ///
-/// A number is never used twice, and numbers end below 4194304. At most 64 regions are out, and no two of them have
-/// numbers that are equal modulo 64. No call takes memory.
+/// A number is never used twice, and numbers end below `REGION_NUMBERS`. At most `MOST_REGIONS` regions are out, and no
+/// two of them have numbers that are equal modulo that. No call takes memory.
 #[derive(Drop)]
 pub struct Office<R: Raw> {
     policy: Policy,
     limits: Limits,
     raw: R,
-    records: ArrayVec<RegionRec, 64>,
+    records: ArrayVec<RegionRec, MOST_REGIONS>,
     counter: u32,
     has_got: bool,
 }
@@ -51,8 +49,9 @@ impl<R: Raw> Model for Office<R> {
 
 impl<R: Raw> Office<R> {
     ghost use Rattle.regions.specs.Offices.{IsSound, desk_of};
+    ghost use Rattle.pool_types.specs.Geometry.{granule_bytes};
     ghost use Rattle.regions.specs.Asking.{asked_indices};
-    ghost use Rattle.regions.specs.Indices.{IsLongestRun};
+    ghost use Rattle.regions.specs.Gaps.{IsLongestGap};
     ghost use Rattle.regions.specs.Obtaining.{Obtains, Gives, HasNumber, IsRefused, bytes_for, starts_at};
 
     /// With no region, over a callback that has none out.
@@ -93,7 +92,7 @@ impl<R: Raw> Office<R> {
     /// never again once a region came. The answer is the first that holds of: `HasRegion`, `RegionsFull`, `SpanFull`,
     /// and `RawFailed` where the callback gives nothing; then nothing has changed but the callback. Else the region is
     /// placed at the lowest start of the right parity where its granules and its wall are free, or, where there is
-    /// none, in the longest free run, the lowest of equals, with as many granules as fit.
+    /// none, in the longest gap, the lowest of equals, with as many granules as fit.
     pub fn obtain(&mut self, granules: u32) -> Result<RegionRec, ObtainError>
         requires some { 1 ≤ granules }
         requires most { granules < self.old.limits.span }
@@ -125,8 +124,8 @@ impl<R: Raw> Office<R> {
         ensures gives { Gives R.out R.faults R.passed self.old first result self.new }
         ensures sound { IsSound R.out self.new }
     {
-        let place = place_of_first(self.records.as_slice(), first);
-        let record = self.records.remove(place);
+        let position = position_of_first(self.records.as_slice(), first);
+        let record = self.records.remove(position);
         self.raw.put(record.region)
     }
 
@@ -139,9 +138,9 @@ impl<R: Raw> Office<R> {
             return Err(ObtainError::HasRegion);
         }
         let records = self.records.as_slice();
-        let out = records.len() as u32;
         let next = next_number(records, self.counter);
-        if out >= MOST_REGIONS || next >= NUMBERS_END {
+        if records.len() >= MOST_REGIONS || u64::from(next) >= REGION_NUMBERS {
+            let out = records.len() as u32;
             return Err(ObtainError::RegionsFull { out, next });
         }
         Ok(next)
@@ -152,16 +151,16 @@ impl<R: Raw> Office<R> {
         requires { granules < self.now.limits.span }
         ensures number { IfOk result (λ asking. HasNumber self.now asking.number) }
         ensures bytes { IfOk result (λ asking. asking.bytes ≡ bytes_for self.now granules) }
-        ensures least { IfOk result (λ asking. 8192 ≤ asking.bytes) }
+        ensures least { IfOk result (λ asking. granule_bytes ≤ asking.bytes) }
         ensures longest { IfOk result (λ asking.
-            IsLongestRun self.now.limits.span self.now.records asking.longest.start asking.longest.count) }
+            IsLongestGap self.now.limits.span self.now.records asking.longest.start asking.longest.count) }
         ensures enough { IfOk result (λ asking. asked_indices asking.bytes ≤ asking.longest.count) }
         ensures refused { IfErr result (IsRefused self.now granules) }
     {
         let number = self.next_number()?;
-        let bytes = bytes_for(&self.policy, &self.limits, granules);
-        let asked = indices_for(bytes);
-        let longest = longest_run(self.records.as_slice(), self.limits.span);
+        let bytes = asked_bytes(&self.policy, &self.limits, granules);
+        let asked = asked_indices(bytes);
+        let longest = longest_gap(self.records.as_slice(), self.limits.span);
         if longest.count < asked {
             return Err(ObtainError::SpanFull {
                 asked,
@@ -176,15 +175,15 @@ impl<R: Raw> Office<R> {
     }
 }
 
-/// The place of the record that starts at the index.
-fn place_of_first(records: &[RegionRec], first: u32) -> usize
+/// The position of the record that starts at the index.
+fn position_of_first(records: &[RegionRec], first: u32) -> usize
     requires { list_any (λ one. one.first == first) records.now ≡ true }
     ensures below { result < length records.now }
     ensures there { (other : RegionRec) → (slice_index_or records.now result other).first ≡ first }
 {
-    for (place, one) in records.iter().enumerate() {
+    for (position, one) in records.iter().enumerate() {
         if one.first == first {
-            return place;
+            return position;
         }
     }
     unreachable!()

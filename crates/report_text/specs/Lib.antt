@@ -5,4 +5,3 @@ pub mod Totals
 pub mod Entries
 pub mod Named
 pub mod Reports
-pub mod Writing

@@ -9,8 +9,9 @@ use Rattle.part_model.specs.declared.holders.Holder.{Holder}
 use Rattle.part_model.specs.declared.holders.Holder.TheVariants.{Waste, Head, Rest, Private, Public, Object, LargeHead, SlabCache, Cached, Bin, Queue, Hand}
 use Rattle.part_model.specs.declared.moves.Range.{Range}
 use Rattle.part_model.specs.declared.moves.Part.{Part}
-use Rattle.trace_reader.specs.Rows.{row_text}
-use Rattle.report_text.specs.Pieces.{name_of, place_text, grant_text}
+use Rattle.pool_types.specs.Rows.{row_name}
+use Rattle.pool_types.specs.Texts.{place_text}
+use Rattle.report_text.specs.Pieces.{name_of, grant_text}
 
 -- who holds bytes
 abbrev pub holder_text : List (List ℕ) → Holder → List ℕ
@@ -40,7 +41,7 @@ keeper_text names (keeper.Hand seat) = codes "hand:" ++ name_of names seat
 
 -- a move's number, the thread that made it and the row of its step
 unfoldable pub step_text : List (List ℕ) → ℕ → ℕ → Row → List ℕ
-step_text names number seat row = decimal number ++ (codes " " ++ (name_of names seat ++ (codes " " ++ row_text row)))
+step_text names number seat row = decimal number ++ (codes " " ++ (name_of names seat ++ (codes " " ++ row_name row)))
 
 -- bytes in a row: the place of the first, and how many
 unfoldable pub range_text : Range → List ℕ

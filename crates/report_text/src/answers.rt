@@ -1,13 +1,12 @@
 //! The texts of answers.
 ghost use Rattle.std.specs.Prelude.{◌≡◌, ◌++◌, [], OnOk, length};
-ghost use Rattle.report_text.specs.Pieces.{names_of};
+ghost use Rattle.pool_types.specs.Texts.{names_of};
 ghost use Rattle.report_text.specs.Answers.{looks_text, cause_text, found_text, answer_text};
 ghost use Rattle.report_text.specs.Named.{IsFoundNamed, IsAnswerNamed};
 
 use crate::pieces::{add_grant, add_object};
-use pool_types::{Answer, Found, Looks, NullCause};
+use pool_types::{Answer, Found, Looks, NullCause, ThreadName};
 use std::io::{self, Write};
-use trace_reader::ThreadName;
 
 /// Adds that none of the blocks in the bins looked at fitted.
 #[tactic(auto, unfolding(crate::specs::Answers::looks_text))]

@@ -4,7 +4,7 @@
 //! then `end`. The report is this project's own; `docs/trace.md` has its form.
 //!
 //! Modules: `entry` (what a report tells), `report` (the report and its writing), `lines` (the text of an entry), and
-//! what lines are made of: `answers`, `moves`, `totals`, `pieces` and `rows`. `writing` writes a whole text to a sink.
+//! what lines are made of: `answers`, `moves`, `totals` and `pieces`.
 #![tactic(auto)]
 
 mod answers;
@@ -14,12 +14,9 @@ mod moves;
 mod named;
 mod pieces;
 mod report;
-mod rows;
 #[cfg(test)]
 mod tests;
 mod totals;
-mod writing;
 
 pub use entry::{BinNumbers, Fate, ReportEntry};
 pub use report::{NoMemory, Report, write_report};
-pub use writing::write_all;

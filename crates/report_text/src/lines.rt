@@ -1,6 +1,7 @@
 //! The text of an entry.
 ghost use Rattle.std.specs.Prelude.{◌≡◌, ◌++◌, OnOk, codes, length};
-ghost use Rattle.report_text.specs.Pieces.{names_of, name_of};
+ghost use Rattle.pool_types.specs.Texts.{names_of};
+ghost use Rattle.report_text.specs.Pieces.{name_of};
 ghost use Rattle.report_text.specs.Answers.{answer_text};
 ghost use Rattle.report_text.specs.Entries.{limits_text, waits_text, fate_text, line_text, destroyed_text, region_text, region_left_text, entry_text};
 ghost use Rattle.report_text.specs.Named.{HasName, IsAnswerNamed, IsNamed};
@@ -10,12 +11,11 @@ use crate::entry::{Fate, ReportEntry};
 use crate::moves::{add_keeper_move, add_move};
 use crate::pieces::add_name;
 use crate::totals::{add_cache, add_leak, add_total};
-use pool_types::{Answer, Awaited, RegionRec, Which};
+use pool_types::{Answer, Awaited, RegionRec, ThreadName, Which};
 use std::io::{self, Write};
-use trace_reader::ThreadName;
 
 /// The limit that is out of its range.
-fn limits_words(limit: Which) -> &'static [u8]
+fn limits_text(limit: Which) -> &'static [u8]
     ensures { result.now ≡ limits_text limit }
 {
     match limit {
@@ -27,7 +27,7 @@ fn limits_words(limit: Which) -> &'static [u8]
 }
 
 /// What the last turn waits for.
-fn waits_words(awaited: Awaited) -> &'static [u8]
+fn waits_text(awaited: Awaited) -> &'static [u8]
     ensures { result.now ≡ waits_text awaited }
 {
     match awaited {
@@ -39,7 +39,7 @@ fn waits_words(awaited: Awaited) -> &'static [u8]
 }
 
 /// What became of a region.
-fn fate_word(fate: Fate) -> &'static [u8]
+fn fate_text(fate: Fate) -> &'static [u8]
     ensures { result.now ≡ fate_text fate }
 {
     match fate {
@@ -135,7 +135,7 @@ fn add_region_line(text: &mut Vec<u8>, pool: u16, rec: RegionRec, fate: Fate) ->
 {
     add_region(text, pool, rec)?;
     text.write_all(b" ")?;
-    text.write_all(fate_word(fate))?;
+    text.write_all(fate_text(fate))?;
     text.write_all(b"\n")
 }
 
@@ -152,10 +152,10 @@ pub(crate) fn add_entry(
         ReportEntry::Made { line } => add_line(text, line, b"made"),
         ReportEntry::InvalidPolicy { line } => add_line(text, line, b"invalid-policy"),
         ReportEntry::UnsupportedPolicy { line } => add_line(text, line, b"unsupported-policy"),
-        ReportEntry::BadLimits { line, limit } => add_line(text, line, limits_words(limit)),
+        ReportEntry::BadLimits { line, limit } => add_line(text, line, limits_text(limit)),
         ReportEntry::Begun { line } => add_line(text, line, b"begun"),
         ReportEntry::Stepped { line } => add_line(text, line, b"stepped"),
-        ReportEntry::Waits { line, awaited } => add_line(text, line, waits_words(awaited)),
+        ReportEntry::Waits { line, awaited } => add_line(text, line, waits_text(awaited)),
         ReportEntry::Idle { line } => add_line(text, line, b"idle"),
         ReportEntry::CallOpen { line } => add_line(text, line, b"call-open"),
         ReportEntry::CallOpenOf { line, seat } => add_call_open(text, names, line, seat),

@@ -1,15 +1,14 @@
 //! The lines of moves.
 ghost use Rattle.std.specs.Prelude.{◌≡◌, ◌++◌, OnOk, length};
-ghost use Rattle.report_text.specs.Pieces.{names_of, name_of, grant_text};
+ghost use Rattle.pool_types.specs.Texts.{names_of};
+ghost use Rattle.report_text.specs.Pieces.{name_of, grant_text};
 ghost use Rattle.report_text.specs.Moves.{holder_text, side_text, keeper_text, step_text, range_text, sides_text, keepers_text, move_text, keeper_move_text};
 ghost use Rattle.report_text.specs.Named.{HasName, IsHolderNamed, IsSideNamed, IsKeeperNamed};
 
-use crate::pieces::{add_grant, add_name, add_place};
-use crate::rows::row_name;
+use crate::pieces::{add_grant, add_name};
 use part_model::{Holder, Part, Range};
-use pool_types::{Grant, Keeper, KeeperChange, Row};
+use pool_types::{Grant, Keeper, KeeperChange, Row, ThreadName, add_place};
 use std::io::{self, Write};
-use trace_reader::ThreadName;
 
 /// Adds a word, and then a grant.
 fn add_word_and_grant(
@@ -98,7 +97,7 @@ fn add_step(
     write!(text, "{number} ")?;
     add_name(text, names, seat)?;
     text.write_all(b" ")?;
-    text.write_all(row_name(row))
+    text.write_all(row.name())
 }
 
 /// Adds the place of bytes in a row, and how many they are.

@@ -1,14 +1,14 @@
 //! The pieces that many lines of a report have in common.
 ghost use Rattle.std.specs.Prelude.{◌≡◌, ◌++◌, OnOk, length};
-ghost use Rattle.report_text.specs.Pieces.{names_of, name_of, place_text, grant_text, object_text};
+ghost use Rattle.pool_types.specs.Texts.{names_of};
+ghost use Rattle.report_text.specs.Pieces.{name_of, grant_text, object_text};
 ghost use Rattle.report_text.specs.Named.{HasName};
 
-use pool_types::{Grant, Place};
+use pool_types::{Grant, Place, ThreadName, add_place};
 use std::io::{self, Write};
-use trace_reader::ThreadName;
 
 /// The name of the seat's thread.
-fn name_at(names: &[ThreadName], seat: u8) -> &[u8]
+fn name_of(names: &[ThreadName], seat: u8) -> &[u8]
     requires { HasName (length names.now) seat }
     ensures { result.now ≡ name_of (names_of names.now) seat }
 {
@@ -20,14 +20,7 @@ pub(crate) fn add_name(text: &mut Vec<u8>, names: &[ThreadName], seat: u8) -> io
     requires { HasName (length names.now) seat }
     ensures { OnOk result (text.new.items ≡ text.old.items ++ name_of (names_of names.now) seat) }
 {
-    text.write_all(name_at(names, seat))
-}
-
-/// Adds a place, as `P0.R0+128`.
-pub(crate) fn add_place(text: &mut Vec<u8>, place: Place) -> io::Result<()>
-    ensures { OnOk result (text.new.items ≡ text.old.items ++ place_text place) }
-{
-    write!(text, "P{}.R{}+{}", place.pool, place.region, place.offset)
+    text.write_all(name_of(names, seat))
 }
 
 /// Adds a grant, as `A#1`.

@@ -3,20 +3,17 @@ ghost use Rattle.std.specs.Prelude.{◌≡◌, ◌++◌, ◌∷◌, [], List, On
 ghost use Rattle.std.specs.Io.KnownBytes.{Appends};
 ghost use Rattle.pool_types.specs.Causes.{Rose};
 ghost use Rattle.report_text.specs.declared.entry.ReportEntry.{ReportEntry};
-ghost use Rattle.report_text.specs.Pieces.{names_of};
+ghost use Rattle.pool_types.specs.Texts.{names_of};
+ghost use Rattle.pool_types.specs.Transfers.{IsWrittenPart};
 ghost use Rattle.report_text.specs.Entries.{entry_text, report_text};
 ghost use Rattle.report_text.specs.Named.{IsNamed};
 ghost use Rattle.report_text.specs.Reports.{ReportView, ended_text, HasEntries};
-ghost use Rattle.report_text.specs.Writing.{IsWrittenPart};
 
 use crate::entry::ReportEntry;
 use crate::lines::add_entry;
-use crate::writing::write_all;
-use arrayvec::ArrayVec;
-use pool_types::{Failed, Sink};
+use pool_types::{Failed, Sink, ThreadName, Threads, write_all};
 use std::alloc::{AllocError, Global};
 use std::marker::Model;
-use trace_reader::{ThreadName, Trace};
 
 /// Memory ran out.
 #[derive(Clone, Copy, Debug, PartialEq, Eq)]
@@ -30,22 +27,12 @@ pub struct Report {
 }
 
 impl Model for Report {
-    ghost use Rattle.report_text.specs.Pieces.{names_of};
+    ghost use Rattle.pool_types.specs.Texts.{names_of};
     ghost use Rattle.report_text.specs.Reports.{ReportView};
 
     ghost Value = { ReportView };
 
     ghost view = { λ s. record { names = names_of s.names.items; text = s.text.items } };
-}
-
-/// The same name again.
-fn duplicate(name: &ThreadName) -> ThreadName
-    ensures { result.bytes.items ≡ name.now.bytes.items }
-{
-    let Ok(bytes) = ArrayVec::try_from(name.bytes.as_slice()) else {
-        unreachable!();
-    };
-    ThreadName { bytes }
 }
 
 /// The same names again.
@@ -54,7 +41,7 @@ fn duplicate_all(alloc: Global, names: &[ThreadName]) -> Result<Vec<ThreadName>,
 {
     let mut kept = Vec::new(alloc);
     for name in names {
-        kept.push(duplicate(name))?;
+        kept.push(name.duplicate())?;
     }
     Ok(kept)
 }
@@ -74,14 +61,14 @@ fn text_of(alloc: Global, names: &[ThreadName], entry: ReportEntry) -> Result<Ve
 impl Report {
     ghost use Rattle.std.specs.Prelude.{◌≡◌, ◌++◌, ◌∷◌, [], List, OnOk, OnErr, IfOk, length};
     ghost use Rattle.report_text.specs.declared.entry.ReportEntry.{ReportEntry};
-    ghost use Rattle.report_text.specs.Pieces.{names_of};
+    ghost use Rattle.pool_types.specs.Texts.{names_of};
     ghost use Rattle.report_text.specs.Entries.{entry_text};
     ghost use Rattle.report_text.specs.Named.{IsNamed};
     ghost use Rattle.report_text.specs.Reports.{HasEntries};
 
     /// A report of no entry. It keeps the names of the trace's threads.
-    pub fn make(alloc: Global, trace: &Trace) -> Result<Report, NoMemory>
-        ensures empty { IfOk result (λ report. report ≡ record { names = names_of trace.now.names.items; text = [] }) }
+    pub fn make<T: Threads>(alloc: Global, trace: &T) -> Result<Report, NoMemory>
+        ensures empty { IfOk result (λ report. report ≡ record { names = T.names trace.now; text = [] }) }
         ensures entries { IfOk result (λ report. HasEntries report []) }
     {
         match duplicate_all(alloc, trace.threads()) {

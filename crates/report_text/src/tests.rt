@@ -2,14 +2,14 @@
 ghost use Rattle.std.specs.Prelude.{◌≤◌};
 
 use crate::{BinNumbers, Fate, Report, ReportEntry, write_report};
+use arrayvec::ArrayVec;
 use part_model::{Holder, Part, Range, Totals};
 use pool_types::{
     Answer, Awaited, Failed, Found, Grant, Keeper, KeeperChange, Leak, Looks, MemorySink,
-    NullCause, Place, Region, RegionRec, Row, Which,
+    NullCause, Place, Region, RegionRec, Row, ThreadName, Threads, Which,
 };
 use std::alloc::{AllocError, Global};
 use std::test::Fail;
-use trace_reader::{Forms, read_trace};
 
 /// Three different numbers, so that an exchange shows.
 const PLACE: Place = Place {
@@ -31,12 +31,36 @@ const REGION: RegionRec = RegionRec {
     },
 };
 
+/// The names of two threads.
+#[derive(Drop)]
+struct Pair {
+    names: [ThreadName; 2],
+}
+
+impl Threads for Pair {
+    ghost use Rattle.pool_types.specs.Texts.{names_of};
+
+    ghost names = { λ pair. names_of pair.names };
+
+    fn threads(&self) -> &[ThreadName] {
+        &self.names
+    }
+}
+
+/// A thread's name of these bytes.
+fn thread(word: &[u8]) -> Result<ThreadName, Fail> {
+    match ArrayVec::try_from(word) {
+        Ok(bytes) => Ok(ThreadName { bytes }),
+        Err(_) => Err(Fail::from("a name of too many bytes")),
+    }
+}
+
 /// A report of two threads, `A` and `B_2`.
 fn report_of(alloc: Global, entries: &[ReportEntry]) -> Result<Report, Fail> {
-    let Ok(trace) = read_trace(alloc, b"threads A B_2\n", Forms::All) else {
-        return Err(Fail::from("the trace is refused"));
+    let pair = Pair {
+        names: [thread(b"A")?, thread(b"B_2")?],
     };
-    let Ok(mut report) = Report::make(alloc, &trace) else {
+    let Ok(mut report) = Report::make(alloc, &pair) else {
         return Err(Fail::from("no memory"));
     };
     for entry in entries {

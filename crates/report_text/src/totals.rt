@@ -1,15 +1,14 @@
 //! The lines of what a pool has at the end.
 ghost use Rattle.std.specs.Prelude.{◌≡◌, ◌++◌, OnOk, length};
-ghost use Rattle.report_text.specs.Pieces.{names_of};
+ghost use Rattle.pool_types.specs.Texts.{names_of};
 ghost use Rattle.report_text.specs.Totals.{region_totals_text, slab_totals_text, object_totals_text, block_totals_text, total_text, bin_items_text, bin_times_text, cache_text, leak_text};
 ghost use Rattle.report_text.specs.Named.{HasName};
 
 use crate::entry::BinNumbers;
 use crate::pieces::add_object;
 use part_model::Totals;
-use pool_types::Leak;
+use pool_types::{Leak, ThreadName};
 use std::io::{self, Write};
-use trace_reader::ThreadName;
 
 /// Adds the part of a pool's totals on its regions.
 #[tactic(auto, unfolding(crate::specs::Totals::region_totals_text))]

@@ -4,3 +4,6 @@ pub mod Positions
 pub mod Powers
 pub mod Fitting
 pub mod Serving
+pub mod Places
+pub mod CallerLemmas
+pub mod Numbers

@@ -5,7 +5,7 @@ use Rattle.std.proofs.lemmas.List.Sums.{position_or_len_is}
 use Rattle.std.proofs.Math.Nat.{pow-le-pow_right}
 use Rattle.std.proofs.lemmas.Bool.Decides.{nat_tests}
 use Rattle.std.proofs.lemmas.Bool.{cases_lt}
-use Rattle.size_classes.specs.Classes.{class_sizes, class_size, first_class, IsFirstClass}
+use Rattle.size_classes.specs.Classes.{class_sizes, class_size, class_of, IsFirstClass}
 use Rattle.size_classes.proofs.Sizes.{class_size-most, class_size-rises, class_size-quarters}
 
 -- a class that is not smaller, where the one before it is, is the first
@@ -20,9 +20,9 @@ first_at size class exists fits before = record {
 }
 
 -- the class that is the first is what the definition finds
-pub first_class-is : (size class : ℕ) → IsFirstClass size class → first_class size ≡ Some class
-unfolding first_class class_size
-first_class-is size class is =
+pub class_of-is : (size class : ℕ) → IsFirstClass size class → class_of size ≡ Some class
+unfolding class_of class_size
+class_of-is size class is =
     let exists : class < 26 = is.exists in
     let place : position_or_len (λ bytes. nat_le size bytes) class_sizes ≡ class =
     position_or_len_is (λ bytes. nat_le size bytes) class_sizes class 0 (omega arith)
@@ -31,9 +31,9 @@ first_class-is size class is =
     ap (λ p. cond (nat_lt p 26) (Some p) None) place ∙ (let below : nat_lt class 26 ≡ true = grind (arith, nat_tests) in ap (λ b. cond b (Some class) None) below)
 
 -- from 8129 on there is none
-pub first_class-none : (size : ℕ) → 8128 < size → first_class size ≡ None
-unfolding first_class class_size
-first_class-none size large =
+pub class_of-none : (size : ℕ) → 8128 < size → class_of size ≡ None
+unfolding class_of class_size
+class_of-none size large =
     let place : position_or_len (λ bytes. nat_le size bytes) class_sizes ≡ 26 =
     position_or_len_is (λ bytes. nat_le size bytes) class_sizes 26 0 (lit≤ tt)
     (λ k below. let most : get_or class_sizes k 0 ≤ 8128 = class_size-most k in grind (arith, nat_tests))
@@ -41,7 +41,7 @@ first_class-none size large =
     ap (λ p. cond (nat_lt p 26) (Some p) None) place
 
 -- what a found class says of the definition
-pub ruleset class_found = (first_class-is, first_class-none)
+pub ruleset class_found = (class_of-is, class_of-none)
 
 -- the last class is 8128
 pub class_size-last : (size : ℕ) → size ≤ 8128 → size ≤ class_size 25
@@ -58,18 +58,18 @@ first_below size (suc class) exists fits =
     ]
 
 -- a size up to 8128 has a class
-pub first_class-some : (size : ℕ) → size ≤ 8128 → (class : ℕ) × (first_class size ≡ Some class) × IsFirstClass size class
-first_class-some size most =
+pub class_of-some : (size : ℕ) → size ≤ 8128 → (class : ℕ) × (class_of size ≡ Some class) × IsFirstClass size class
+class_of-some size most =
     let found = first_below size 25 (lit< tt) (class_size-last size most) in
-    (found.0, first_class-is size found.0 found.1, found.1)
+    (found.0, class_of-is size found.0 found.1, found.1)
 
 -- what the definition finds is the first class that is not smaller
-pub first_class-found : (size class : ℕ) → first_class size ≡ Some class → IsFirstClass size class
-first_class-found size class found =
+pub class_of-found : (size class : ℕ) → class_of size ≡ Some class → IsFirstClass size class
+class_of-found size class found =
     elim (cases_lt 8128 size) [
-      | inl large ↦ absurd (let none : None ≡ Some class = sym (first_class-none size large) ∙ found in cc)
+      | inl large ↦ absurd (let none : None ≡ Some class = sym (class_of-none size large) ∙ found in cc)
       | inr small ↦
-          let some = first_class-some size small in
+          let some = class_of-some size small in
           let both : Some some.0 ≡ Some class = sym some.1 ∙ found in
           let same : some.0 ≡ class = cc in
           subst (IsFirstClass size) same some.2

@@ -1,47 +1,45 @@
 -- What a request is served as.
-use Rattle.std.proofs.Common.{◌≡◌, ◌≢◌, ℕ, ◌+◌, ◌-◌, ◌*◌, ◌/◌, ◌%◌, ◌^◌, ◌<◌, ◌≤◌, ◌⊎◌, Bool, true, false, not, Option, Some, None, nat_eq, max, refl, sym, ◌∙◌, ap, ap₂, subst, arith, cond, ◌||◌, inl, inr, eqb-true}
+use Rattle.std.proofs.Common.{◌≡◌, ◌≢◌, ℕ, ◌+◌, ◌-◌, ◌*◌, ◌/◌, ◌%◌, ◌^◌, ◌<◌, ◌≤◌, ◌⊎◌, true, false, not, Option, Some, None, nat_eq, max, refl, sym, ◌∙◌, ap, ap₂, subst, arith, cond, ◌||◌, inl, inr, eqb-true}
 use Rattle.std.specs.Int.{IsPowerOfTwo, is_power_of_two}
 use Rattle.std.proofs.Math.Nat.{div-mul-le_self, mul-mod_left, lt-div-mul-add, mul-le-mul_right}
 use Rattle.std.proofs.Math.Bool.{or-true}
 use Rattle.std.proofs.lemmas.Nat.{div-mul-add, div-add-mod'}
 use Rattle.std.proofs.lemmas.Bool.Decides.{nat_tests}
-use Rattle.std.proofs.lemmas.Bool.{cases_lt}
-use Rattle.size_classes.specs.Classes.{class_size, first_class, IsFirstClass}
-use Rattle.size_classes.specs.Served.{aligned_up, aligned_class, granules_of, small_or, large_at, served_plain_at, served_at, IfSmall}
+use Rattle.std.proofs.lemmas.Bool.{cases_lt, false_from_ne_true}
+use Rattle.pool_types.specs.Geometry.{granule_bytes, granules_of}
+use Rattle.pool_types.specs.Policies.{align_up}
+use Rattle.size_classes.specs.Classes.{class_size, class_of, IsFirstClass}
+use Rattle.size_classes.specs.Served.{aligned_class, small_or, large_at, served_plain, served, IfSmall}
 use Rattle.size_classes.specs.declared.Served.TheVariants.{Small, Bad}
 use Rattle.size_classes.proofs.Below.{all_below, all_below-at}
-use Rattle.size_classes.proofs.Positions.{first_class-found, first_class-none}
+use Rattle.size_classes.proofs.Positions.{class_of-found, class_of-none}
 use Rattle.size_classes.proofs.Fitting.{first-past_doubled, class_size-whole, class_size-lines}
 use Rattle.size_classes.proofs.Powers.{is_power_of_two-is, power-positive, exponent-below}
 
 -- a multiple of the alignment that is not below the size, and by less than the alignment above it
-pub aligned_up-is : (size alignment multiple : ℕ) → 0 < alignment → size ≤ multiple → multiple < size + alignment → multiple % alignment ≡ 0 → aligned_up size alignment ≡ multiple
-unfolding aligned_up
-aligned_up-is size alignment multiple positive least most whole =
+pub align_up-is : (size alignment multiple : ℕ) → 0 < alignment → size ≤ multiple → multiple < size + alignment → multiple % alignment ≡ 0 → align_up size alignment ≡ multiple
+align_up-is size alignment multiple positive least most whole =
     let parts : multiple / alignment * alignment + multiple % alignment ≡ multiple = div-add-mod' multiple alignment in
     let sum : size + (alignment - 1) ≡ multiple / alignment * alignment + (size + (alignment - 1) - multiple) = omega arith in
     let quotient : (multiple / alignment * alignment + (size + (alignment - 1) - multiple)) / alignment ≡ multiple / alignment = div-mul-add (multiple / alignment) alignment (size + (alignment - 1) - multiple) (omega arith) in
     ap (λ n. n / alignment * alignment) sum ∙ ap (λ n. n * alignment) quotient ∙ omega arith
 
 -- rounding up goes up, by less than the alignment, to a multiple
-pub aligned_up-least : (size alignment : ℕ) → 0 < alignment → size ≤ aligned_up size alignment
-unfolding aligned_up
-aligned_up-least size alignment positive = omega (arith, lt-div-mul-add {a = size + (alignment - 1)} {b = alignment} positive)
+pub align_up-least : (size alignment : ℕ) → 0 < alignment → size ≤ align_up size alignment
+align_up-least size alignment positive = omega (arith, lt-div-mul-add {a = size + (alignment - 1)} {b = alignment} positive)
 
-pub aligned_up-most : (size alignment : ℕ) → 0 < alignment → aligned_up size alignment < size + alignment
-unfolding aligned_up
-aligned_up-most size alignment positive = omega (arith, div-mul-le_self (size + (alignment - 1)) alignment)
+pub align_up-most : (size alignment : ℕ) → 0 < alignment → align_up size alignment < size + alignment
+align_up-most size alignment positive = omega (arith, div-mul-le_self (size + (alignment - 1)) alignment)
 
-pub aligned_up-multiple : (size alignment : ℕ) → aligned_up size alignment % alignment ≡ 0
-unfolding aligned_up
-aligned_up-multiple size alignment = mul-mod_left ((size + (alignment - 1)) / alignment) alignment
+pub align_up-multiple : (size alignment : ℕ) → align_up size alignment % alignment ≡ 0
+align_up-multiple size alignment = mul-mod_left ((size + (alignment - 1)) / alignment) alignment
 
 -- the rows of an aligned request
-pub aligned_class-rounded : (size alignment : ℕ) → size ≤ 1024 → alignment ≤ 1024 → aligned_class size alignment ≡ first_class (aligned_up size alignment)
+pub aligned_class-rounded : (size alignment : ℕ) → size ≤ 1024 → alignment ≤ 1024 → aligned_class size alignment ≡ class_of (align_up size alignment)
 unfolding aligned_class
 aligned_class-rounded size alignment small low = grind (arith, nat_tests)
 
-pub aligned_class-line : (size alignment : ℕ) → 1024 < size → alignment ≤ 64 → aligned_class size alignment ≡ first_class size
+pub aligned_class-line : (size alignment : ℕ) → 1024 < size → alignment ≤ 64 → aligned_class size alignment ≡ class_of size
 unfolding aligned_class
 aligned_class-line size alignment large low = grind (arith, nat_tests)
 
@@ -54,30 +52,28 @@ pub aligned_class-past : (size alignment : ℕ) → 8128 < size → aligned_clas
 aligned_class-past size alignment large =
     elim (cases_lt 64 alignment) [
       | inl high ↦ aligned_class-block size alignment (inl (omega arith)) high
-      | inr line ↦ aligned_class-line size alignment (omega arith) line ∙ first_class-none size large
+      | inr line ↦ aligned_class-line size alignment (omega arith) line ∙ class_of-none size large
     ]
 
 -- what the code's rows say
 pub ruleset aligned_rows = (aligned_class-rounded, aligned_class-line, aligned_class-block)
 
 -- a plain request with a class
-pub served_plain_at-small : (size class : ℕ) → first_class size ≡ Some class → served_plain_at size ≡ Small class
-unfolding served_plain_at
-served_plain_at-small size class found = ap (λ some. small_or some (large_at size 64)) found
+pub served_plain-small : (size class : ℕ) → class_of size ≡ Some class → served_plain size ≡ Small class
+unfolding served_plain
+served_plain-small size class found = ap (λ some. small_or some (large_at size 64)) found
 
 -- and one without
-pub served_plain_at-large : (size : ℕ) → 8128 < size → served_plain_at size ≡ large_at size 64
-unfolding served_plain_at
-served_plain_at-large size large = ap (λ none. small_or none (large_at size 64)) (first_class-none size large)
+pub served_plain-large : (size : ℕ) → 8128 < size → served_plain size ≡ large_at size 64
+unfolding served_plain
+served_plain-large size large = ap (λ none. small_or none (large_at size 64)) (class_of-none size large)
 
 -- the granules have room for the bytes
-pub granules_of-room : (bytes : ℕ) → bytes ≤ 8192 * granules_of bytes
-unfolding granules_of
+pub granules_of-room : (bytes : ℕ) → bytes ≤ granule_bytes * granules_of bytes
 granules_of-room bytes = omega arith
 
 -- and no granule to spare
-pub granules_of-tight : (bytes : ℕ) → 8192 * granules_of bytes < bytes + 8192
-unfolding granules_of
+pub granules_of-tight : (bytes : ℕ) → granule_bytes * granules_of bytes < bytes + granule_bytes
 granules_of-tight bytes = omega arith
 
 -- a fact of the class where there is one
@@ -91,24 +87,19 @@ small_or-never_bad (Some class) size alignment bad = cc
 small_or-never_bad None size alignment bad = cc
 
 -- a request for bytes at a power of two has its class or a block
-pub served_at-well_formed : (size alignment : ℕ) → 0 < size → IsPowerOfTwo alignment → served_at size alignment ≡ small_or (aligned_class size alignment) (large_at size (max 64 alignment))
-unfolding served_at
-served_at-well_formed size alignment some power =
+pub served-well_formed : (size alignment : ℕ) → 0 < size → IsPowerOfTwo alignment → served size alignment ≡ small_or (aligned_class size alignment) (large_at size (max 64 alignment))
+unfolding served
+served-well_formed size alignment some power =
     let bytes : nat_eq size 0 ≡ false = grind (arith, nat_tests) in
     ap₂ (λ empty two. cond (empty || not two) Bad (small_or (aligned_class size alignment) (large_at size (max 64 alignment)))) bytes ((is_power_of_two-is alignment).1 power)
 
--- what is not true is false
-false-of : (test : Bool) → (test ≡ true → ⊥) → test ≡ false
-false-of true never = absurd (never refl)
-false-of false never = refl
-
 -- any other is bad
-pub served_at-bad : (size alignment : ℕ) → (0 < size → IsPowerOfTwo alignment → ⊥) → served_at size alignment ≡ Bad
-unfolding served_at
-served_at-bad size alignment never =
+pub served-bad : (size alignment : ℕ) → (0 < size → IsPowerOfTwo alignment → ⊥) → served size alignment ≡ Bad
+unfolding served
+served-bad size alignment never =
     elim (cases_lt 0 size) [
       | inl some ↦
-          let two : is_power_of_two alignment ≡ false = false-of (is_power_of_two alignment) (λ is. never some ((is_power_of_two-is alignment).0 is)) in
+          let two : is_power_of_two alignment ≡ false = false_from_ne_true (is_power_of_two alignment) (λ is. never some ((is_power_of_two-is alignment).0 is)) in
           ap (λ two. cond (nat_eq size 0 || not two) Bad (small_or (aligned_class size alignment) (large_at size (max 64 alignment)))) two
           ∙ ap (λ bad. cond bad Bad (small_or (aligned_class size alignment) (large_at size (max 64 alignment)))) (or-true (nat_eq size 0))
       | inr none ↦
@@ -117,17 +108,17 @@ served_at-bad size alignment never =
     ]
 
 -- rounded up, at most 1024 stays at most 1024
-aligned_up-limit : (size k : ℕ) → size ≤ 1024 → k < 11 → aligned_up size (2 ^ k) ≤ 1024
+align_up-limit : (size k : ℕ) → size ≤ 1024 → k < 11 → align_up size (2 ^ k) ≤ 1024
 unfolding all_below
-aligned_up-limit size k small low =
+align_up-limit size k small low =
     let positive : 0 < 2 ^ k = power-positive (2 ^ k) (k, refl) in
-    let up : aligned_up size (2 ^ k) < size + 2 ^ k = aligned_up-most size (2 ^ k) positive in
-    let parts : aligned_up size (2 ^ k) / 2 ^ k * 2 ^ k + aligned_up size (2 ^ k) % 2 ^ k ≡ aligned_up size (2 ^ k) = div-add-mod' (aligned_up size (2 ^ k)) (2 ^ k) in
-    let multiple : aligned_up size (2 ^ k) % 2 ^ k ≡ 0 = aligned_up-multiple size (2 ^ k) in
+    let up : align_up size (2 ^ k) < size + 2 ^ k = align_up-most size (2 ^ k) positive in
+    let parts : align_up size (2 ^ k) / 2 ^ k * 2 ^ k + align_up size (2 ^ k) % 2 ^ k ≡ align_up size (2 ^ k) = div-add-mod' (align_up size (2 ^ k)) (2 ^ k) in
+    let multiple : align_up size (2 ^ k) % 2 ^ k ≡ 0 = align_up-multiple size (2 ^ k) in
     let whole : 1024 / 2 ^ k * 2 ^ k ≡ 1024 = eqb-true _ _ (all_below-at (λ j. nat_eq (1024 / 2 ^ j * 2 ^ j) 1024) 11 k refl low) in
-    elim (cases_lt (1024 / 2 ^ k) (aligned_up size (2 ^ k) / 2 ^ k)) [
-      | inl above ↦ absurd (let more : (1024 / 2 ^ k + 1) * 2 ^ k ≤ aligned_up size (2 ^ k) / 2 ^ k * 2 ^ k = mul-le-mul_right (2 ^ k) (omega arith) in omega arith)
-      | inr within ↦ let most : aligned_up size (2 ^ k) / 2 ^ k * 2 ^ k ≤ 1024 / 2 ^ k * 2 ^ k = mul-le-mul_right (2 ^ k) within in omega arith
+    elim (cases_lt (1024 / 2 ^ k) (align_up size (2 ^ k) / 2 ^ k)) [
+      | inl above ↦ absurd (let more : (1024 / 2 ^ k + 1) * 2 ^ k ≤ align_up size (2 ^ k) / 2 ^ k * 2 ^ k = mul-le-mul_right (2 ^ k) (omega arith) in omega arith)
+      | inr within ↦ let most : align_up size (2 ^ k) / 2 ^ k * 2 ^ k ≤ 1024 / 2 ^ k * 2 ^ k = mul-le-mul_right (2 ^ k) within in omega arith
     ]
 
 -- the class of an aligned request is at least its size
@@ -137,14 +128,14 @@ aligned_class-fits size alignment class positive found =
       | inl large ↦
           elim (cases_lt 64 alignment) [
             | inl high ↦ absurd (let none : None ≡ Some class = sym (aligned_class-block size alignment (inl large) high) ∙ found in cc)
-            | inr line ↦ (first_class-found size class (sym (aligned_class-line size alignment large line) ∙ found)).fits
+            | inr line ↦ (class_of-found size class (sym (aligned_class-line size alignment large line) ∙ found)).fits
           ]
       | inr small ↦
           elim (cases_lt 1024 alignment) [
             | inl high ↦ absurd (let none : None ≡ Some class = sym (aligned_class-block size alignment (inr high) (omega arith)) ∙ found in cc)
             | inr low ↦
-                let is : IsFirstClass (aligned_up size alignment) class = first_class-found (aligned_up size alignment) class (sym (aligned_class-rounded size alignment small low) ∙ found) in
-                omega (arith, is.fits, aligned_up-least size alignment positive)
+                let is : IsFirstClass (align_up size alignment) class = class_of-found (align_up size alignment) class (sym (aligned_class-rounded size alignment small low) ∙ found) in
+                omega (arith, is.fits, align_up-least size alignment positive)
           ]
     ]
 
@@ -156,17 +147,17 @@ aligned_class-multiple_power size k class some found =
           elim (cases_lt 64 (2 ^ k)) [
             | inl high ↦ absurd (let none : None ≡ Some class = sym (aligned_class-block size (2 ^ k) (inl large) high) ∙ found in cc)
             | inr line ↦
-                let is : IsFirstClass size class = first_class-found size class (sym (aligned_class-line size (2 ^ k) large line) ∙ found) in
+                let is : IsFirstClass size class = class_of-found size class (sym (aligned_class-line size (2 ^ k) large line) ∙ found) in
                 class_size-lines class k (first-past_doubled size class large is) is.exists (exponent-below k 7 (omega arith))
           ]
       | inr small ↦
           elim (cases_lt 1024 (2 ^ k)) [
             | inl high ↦ absurd (let none : None ≡ Some class = sym (aligned_class-block size (2 ^ k) (inr high) (omega arith)) ∙ found in cc)
             | inr low ↦
-                let is : IsFirstClass (aligned_up size (2 ^ k)) class = first_class-found (aligned_up size (2 ^ k)) class (sym (aligned_class-rounded size (2 ^ k) small low) ∙ found) in
+                let is : IsFirstClass (align_up size (2 ^ k)) class = class_of-found (align_up size (2 ^ k)) class (sym (aligned_class-rounded size (2 ^ k) small low) ∙ found) in
                 let exponent : k < 11 = exponent-below k 11 (omega arith) in
-                let up : size ≤ aligned_up size (2 ^ k) = aligned_up-least size (2 ^ k) (power-positive (2 ^ k) (k, refl)) in
-                class_size-whole (aligned_up size (2 ^ k)) class k (omega arith) (aligned_up-limit size k small exponent) (aligned_up-multiple size (2 ^ k)) is exponent
+                let up : size ≤ align_up size (2 ^ k) = align_up-least size (2 ^ k) (power-positive (2 ^ k) (k, refl)) in
+                class_size-whole (align_up size (2 ^ k)) class k (omega arith) (align_up-limit size k small exponent) (align_up-multiple size (2 ^ k)) is exponent
           ]
     ]
 

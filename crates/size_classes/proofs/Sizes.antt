@@ -1,8 +1,9 @@
 -- The sizes of the classes. What is computed class by class stands as a test of all of them.
 use Rattle.std.proofs.Common.{◌≡◌, ℕ, ◌+◌, ◌*◌, ◌/◌, ◌^◌, ◌<◌, ◌≤◌, nat_eq, nat_le, nat_lt, suc, zero, max, refl, arith, ap, inl, inr, eqb-true, leb-true}
-use Rattle.std.proofs.Math.Nat.{div-mul-le_self}
+use Rattle.std.proofs.Math.Nat.{div-mul-le_self, div-zero}
 use Rattle.std.proofs.lemmas.Bool.{cases_lt}
 use Rattle.std.proofs.lemmas.List.{get_or_past}
+use Rattle.pool_types.specs.Geometry.{objects_bytes}
 use Rattle.size_classes.specs.Classes.{class_sizes, class_size, class_objects}
 use Rattle.size_classes.proofs.Below.{all_below, all_below-at}
 
@@ -75,16 +76,20 @@ class_size-quarters doubling quarter doubles within =
     within)
 
 -- the objects of a slab have room in it
-pub class_objects-fit : (class : ℕ) → class_objects class * class_size class ≤ 16256
+pub class_objects-fit : (class : ℕ) → class_objects class * class_size class ≤ objects_bytes
 unfolding class_objects
-class_objects-fit class = div-mul-le_self 16256 (class_size class)
+class_objects-fit class = div-mul-le_self objects_bytes (class_size class)
 
 -- each slab has two objects or more
 pub class_objects-least : (class : ℕ) → class < 26 → 2 ≤ class_objects class
 unfolding class_objects class_size all_below
 class_objects-least class exists = leb-true _ _ (all_below-at (λ c. nat_le 2 (class_objects c)) 26 class refl exists)
 
--- no slab has more than 2032 objects
-pub class_objects-most : (class : ℕ) → class < 26 → class_objects class ≤ 2032
+-- no slab has more than 2032 objects, and one of no class has none
+pub class_objects-most : (class : ℕ) → class_objects class ≤ 2032
 unfolding class_objects class_size all_below
-class_objects-most class exists = leb-true _ _ (all_below-at (λ c. nat_le (class_objects c) 2032) 26 class refl exists)
+class_objects-most class =
+    elim (cases_lt class 26) [
+      | inl exists ↦ leb-true _ _ (all_below-at (λ c. nat_le (class_objects c) 2032) 26 class refl exists)
+      | inr past ↦ omega (arith, ap (λ size. objects_bytes / size) (class_size-past class past), div-zero objects_bytes)
+    ]

@@ -1,17 +1,24 @@
-//! The classes of sizes of small objects, the class of a size, and what a request for memory is served
-//! as.
+//! The classes of sizes of small objects, the class of a size, what a request for memory is served as, and where a
+//! slab's objects lie.
 //!
-//! An object that is not large lies in a slab whose objects all have one size, the slab's class. The
-//! classes and how the class of a size is found from its bits are modelled on oneTBB's
-//! `src/tbbmalloc/frontend.cpp` (`getIndexOrObjectSize`). The list of the sizes is this project's own.
+//! An object that is not large lies in a slab whose objects all have one size, the slab's class. The classes and how the
+//! class of a size is found from its bits are modelled on oneTBB's `src/tbbmalloc/frontend.cpp`
+//! (`getIndexOrObjectSize`). The list of the sizes is this project's own.
 #![tactic(auto)]
 
 ghost use Rattle.std.specs.Prelude.{◌≡◌, ℕ, ◌<◌, ◌≤◌};
-ghost use Rattle.size_classes.specs.Classes.{first_class, IsFirstClass, class_size, class_objects};
+ghost use Rattle.pool_types.specs.Geometry.{largest_small};
+ghost use Rattle.size_classes.specs.Classes.{class_of, IsFirstClass, class_count, class_size, class_objects, quarters_end};
 
+use pool_types::geometry::{LARGEST_SMALL, OBJECTS_BYTES};
 use std::marker::Model;
 
+pub mod laws;
+pub mod layout;
+pub mod numbered;
 pub mod request;
+
+pub use layout::object_offset;
 
 /// How many classes there are.
 pub const CLASSES: usize = 26;
@@ -22,9 +29,8 @@ const SIZES: [u16; CLASSES] = [
     1024, 1792, 2688, 4032, 5376, 8128,
 ];
 
-/// The bytes of a slab that its objects share. It is this project's own: a slab of 16384 bytes with a
-/// header of 128.
-const OBJECTS_BYTES: u64 = 16256;
+/// Up to this size each doubling has four classes, from 64 on.
+const QUARTERS_END: u64 = 1024;
 
 /// A class of sizes. Contracts see it as its position among the 26 classes.
 #[derive(Clone, Copy, Debug, PartialEq, Eq)]
@@ -33,11 +39,14 @@ pub struct Class {
 }
 
 impl Model for Class {
+    ghost use Rattle.std.specs.Prelude.{ℕ, ◌<◌};
+    ghost use Rattle.size_classes.specs.Classes.{class_count};
+
     ghost Value = { ℕ };
 
     ghost view = { λ class. class.position };
 
-    ghost invariant = { λ class. class.position < 26 };
+    ghost invariant = { λ class. class.position < class_count };
 
     ghost inverse = { λ position. record { position = position } };
 }
@@ -48,7 +57,7 @@ pub enum Served {
     /// An object of this class.
     Small(Class),
 
-    /// A block of so many granules of 8192 bytes, in which the object starts at a multiple of the
+    /// A block of so many granules, in which the object starts at a multiple of the
     /// alignment, in bytes.
     Large { granules: u64, alignment: u64 },
 
@@ -61,7 +70,7 @@ impl Class {
     pub fn size(self) -> u64
         ensures exact { result ≡ class_size self }
         ensures least { 8 ≤ result }
-        ensures most { result ≤ 8128 }
+        ensures most { result ≤ largest_small }
     {
         u64::from(SIZES[usize::from(self.position)])
     }
@@ -78,7 +87,7 @@ impl Class {
     /// The position among the classes, from 0 for the smallest.
     pub fn index(self) -> u8
         ensures exact { result ≡ self }
-        ensures below { result < 26 }
+        ensures below { result < class_count }
     {
         self.position
     }
@@ -87,17 +96,17 @@ impl Class {
 /// The class of a size in bytes: the first class that is not smaller. A size from 8129 on has none.
 #[tactic(auto, using(crate::proofs::Positions::class_found))]
 pub fn class_of(size: u64) -> Option<Class>
-    ensures { result ≡ first_class size }
+    ensures { result ≡ class_of size }
 {
     if size <= 64 {
         Some(Class {
             position: sixteens_position(size),
         })
-    } else if size <= 1024 {
+    } else if size <= QUARTERS_END {
         Some(Class {
             position: quarters_position(size),
         })
-    } else if size <= 8128 {
+    } else if size <= LARGEST_SMALL {
         Some(Class {
             position: fitting_position(size),
         })
@@ -123,7 +132,7 @@ fn sixteens_position(size: u64) -> u8
 /// bit of `size - 1` tells the doubling, and the two bits below it tell the class within.
 fn quarters_position(size: u64) -> u8
     requires above { 64 < size }
-    requires most { size ≤ 1024 }
+    requires most { size ≤ quarters_end }
     ensures { IsFirstClass size result }
 {
     let order = (size - 1).ilog2();
@@ -135,8 +144,8 @@ fn quarters_position(size: u64) -> u8
 /// slab has room for 9, 6, 4, 3 and 2.
 #[tactic(auto, using(crate::proofs::Positions::first_at), unfolding(crate::specs::Classes::class_size))]
 fn fitting_position(size: u64) -> u8
-    requires above { 1024 < size }
-    requires most { size ≤ 8128 }
+    requires above { quarters_end < size }
+    requires most { size ≤ largest_small }
     ensures { IsFirstClass size result }
 {
     if size <= 1792 {

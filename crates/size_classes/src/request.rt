@@ -7,27 +7,23 @@
 
 ghost use Rattle.std.specs.Prelude.{◌≡◌, ◌≢◌, ℕ, ◌+◌, ◌-◌, ◌*◌, ◌%◌, ◌<◌, ◌≤◌, ◌↔◌, ◌⊎◌, IsTrue};
 ghost use Rattle.std.specs.Int.{IsPowerOfTwo};
-ghost use Rattle.size_classes.specs.Classes.{class_size};
-ghost use Rattle.size_classes.specs.Served.{aligned_up, aligned_class, served_plain_at, served_at, small_or, large_at, IfSmall};
+ghost use Rattle.pool_types.specs.Policies.{align_up};
+ghost use Rattle.size_classes.specs.Classes.{class_size, quarters_end};
+ghost use Rattle.size_classes.specs.Served.{aligned_class, served_plain, served, small_or, large_at, IfSmall};
 
-use crate::{Class, Served, class_of};
-
-/// The bytes of a granule, in which large blocks are counted.
-const GRANULE_BYTES: u128 = 8192;
-
-/// The least alignment of a large object, and the largest for which a class above 1024 will do.
-const LINE_BYTES: u64 = 64;
+use crate::{Class, QUARTERS_END, Served, class_of};
+use pool_types::geometry::{GRANULE_BYTES, LINE_BYTES};
 
 /// What a request for `size` bytes with no alignment is served as: an object of the size's class, and
 /// from 8129 bytes on a block whose object has a head of 64 bytes or more before it. A request for no
 /// bytes takes the smallest class. None is `Bad`.
 pub fn served_plain(size: u64) -> Served
-    ensures exact { result ≡ served_plain_at size }
+    ensures exact { result ≡ served_plain size }
     ensures never_bad { result ≢ Served.Bad }
     ensures fits { IfSmall result (λ class. size ≤ class_size class) }
 
     // Less than a fifth of the object is lost.
-    ensures tight { 64 < size → size ≤ 1024 → IfSmall result (λ class. 4 * (class_size class - size) < size) }
+    ensures tight { 64 < size → size ≤ quarters_end → IfSmall result (λ class. 4 * (class_size class - size) < size) }
 {
     small_or_large(class_of(size), size, LINE_BYTES)
 }
@@ -39,7 +35,7 @@ pub fn served_plain(size: u64) -> Served
 /// the alignment. Up to alignment 64 each class for more than 1024 bytes is such a multiple. Any other
 /// request takes a block.
 pub fn served(size: u64, alignment: u64) -> Served
-    ensures exact { result ≡ served_at size alignment }
+    ensures exact { result ≡ served size alignment }
     ensures bad { (result ≡ Served.Bad) ↔ ((size ≡ 0) ⊎ ¬ IsPowerOfTwo alignment) }
     ensures fits { IfSmall result (λ class. size ≤ class_size class) }
     ensures multiple { IfSmall result (λ class. class_size class % alignment ≡ 0) }
@@ -67,7 +63,7 @@ fn aligned_class(size: u64, alignment: u64) -> Option<Class>
     requires { 0 < alignment }
     ensures { result ≡ aligned_class size alignment }
 {
-    if size <= 1024 && alignment <= 1024 {
+    if size <= QUARTERS_END && alignment <= QUARTERS_END {
         class_of(align_up(size, alignment))
     } else if alignment <= LINE_BYTES {
         class_of(size)
@@ -78,10 +74,10 @@ fn aligned_class(size: u64, alignment: u64) -> Option<Class>
 
 /// The least multiple of the alignment that is not below the size.
 fn align_up(size: u64, alignment: u64) -> u64
-    requires size { size ≤ 1024 }
-    requires alignment { alignment ≤ 1024 }
+    requires size { size ≤ quarters_end }
+    requires alignment { alignment ≤ quarters_end }
     requires positive { 0 < alignment }
-    ensures { result ≡ aligned_up size alignment }
+    ensures { result ≡ align_up size alignment }
 {
     size.next_multiple_of(alignment)
 }
@@ -98,13 +94,12 @@ fn small_or_large(class: Option<Class>, size: u64, alignment: u64) -> Served
 
 /// A block for an object of `size` bytes at a multiple of `alignment`. The bytes are added in 128
 /// bits, since they may be `2^64` and more.
-#[tactic(auto, unfolding(crate::specs::Served::granules_of))]
 fn large(size: u64, alignment: u64) -> Served
     ensures { result ≡ large_at size alignment }
 {
     let bytes = u128::from(size) + u128::from(alignment);
     Served::Large {
-        granules: bytes.div_ceil(GRANULE_BYTES) as u64,
+        granules: bytes.div_ceil(u128::from(GRANULE_BYTES)) as u64,
         alignment,
     }
 }

@@ -1,23 +1,11 @@
 -- A header's three numbers, and the record that they make.
-use Rattle.std.proofs.Common.{◌≡◌, ℕ, ◌+◌, ◌*◌, ◌/◌, ◌%◌, ◌<◌, ◌≤◌, zero, suc, Option, Some, None, arith, refl, sym, ap, subst, ◌∙◌, bit_and, bit_or, inl, inr}
-use Rattle.std.proofs.Math.Nat.{div-zero}
-use Rattle.std.proofs.lemmas.Bool.{cases_lt}
+use Rattle.std.proofs.Common.{◌≡◌, ℕ, ◌+◌, ◌*◌, ◌/◌, ◌%◌, ◌<◌, ◌≤◌, zero, suc, Option, Some, None, arith, refl, sym, ap, subst, ◌∙◌, bit_and, bit_or}
 use Rattle.std.proofs.lemmas.Nat.{and_mask}
 use Rattle.std.proofs.lemmas.Grind.{or_before_shift}
-use Rattle.size_classes.specs.Classes.{class_objects}
-use Rattle.size_classes.proofs.Sizes.{class_objects-most, class_size-past}
+use Rattle.size_classes.proofs.CallerLemmas.{class_objects-most}
 use Rattle.slab_core.specs.declared.SlabRec.{SlabRec}
 use Rattle.slab_core.specs.Slabs.{IsValid, IsNewest}
-use Rattle.slab_core.specs.Headers.{header_of, head_word, object_in, record_in, IsHeaderOf, HeadersTellRecords}
-
--- no slab has more than 2032 objects, and one of no class has none
-pub objects-most : (class : ℕ) → class_objects class ≤ 2032
-unfolding class_objects
-objects-most class =
-    elim (cases_lt class 26) [
-      | inl exists ↦ class_objects-most class exists
-      | inr past ↦ omega (arith, ap (λ size. 16256 / size) (class_size-past class past), div-zero 16256)
-    ]
+use Rattle.slab_core.specs.Headers.{to_header, head_word, object_in, record_in, IsHeaderOf, HeadersTellRecords}
 
 -- the head's number plus 1 is at most how many objects were handed out
 pub head_word-most : (head : Option ℕ) (count handed : ℕ) → IsNewest head count handed → head_word head ≤ handed
@@ -32,9 +20,9 @@ pub record HasRoom (handed count head : ℕ) : Type 0 where
 
 pub has_room : (slab : SlabRec) → IsValid slab → HasRoom slab.handed slab.count (head_word slab.head)
 has_room slab valid = record {
-  handed_below = omega (arith, objects-most slab.class);
-  count_below = omega (arith, objects-most slab.class);
-  head_below = omega (arith, objects-most slab.class, head_word-most slab.head slab.count slab.handed valid.head);
+  handed_below = omega (arith, class_objects-most slab.class);
+  count_below = omega (arith, class_objects-most slab.class);
+  head_below = omega (arith, class_objects-most slab.class, head_word-most slab.head slab.count slab.handed valid.head);
 }
 
 -- the three numbers of a word that holds them
@@ -65,8 +53,8 @@ head_word-object_in (suc object) = omega arith
 
 -- what the shifts of the three numbers into one word make
 pub packed_by_shifts : (slab : SlabRec) → IsValid slab →
-    bit_or (bit_or slab.handed (slab.count * 2048 % 18446744073709551616)) (head_word slab.head * 4194304 % 18446744073709551616) ≡ header_of slab
-unfolding header_of
+    bit_or (bit_or slab.handed (slab.count * 2048 % 18446744073709551616)) (head_word slab.head * 4194304 % 18446744073709551616) ≡ to_header slab
+unfolding to_header
 packed_by_shifts slab valid =
     let room : HasRoom slab.handed slab.count (head_word slab.head) = has_room slab valid in
     rw (or_before_shift slab.handed slab.count 2048 18446744073709551616 refl room.handed_below (omega arith))
@@ -93,8 +81,8 @@ unfolding record_in
 record_in-index class index word = refl
 
 -- its header is the word again, where that has no higher bits
-pub packed_again : (class index word : ℕ) → word / 8589934592 ≡ 0 → header_of (record_in class index word) ≡ word
-unfolding header_of record_in
+pub packed_again : (class index word : ℕ) → word / 8589934592 ≡ 0 → to_header (record_in class index word) ≡ word
+unfolding to_header record_in
 packed_again class index word none = rw (head_word-object_in (word / 4194304 % 2048)) (made_of_three word none)
 
 -- so it is a header where the record is valid
@@ -107,12 +95,12 @@ is_header class index word none valid = record {
 
 -- the header of a valid record has no higher bits
 pub header-above : (class word : ℕ) (slab : SlabRec) → IsHeaderOf class word slab → word / 8589934592 ≡ 0
-unfolding header_of
+unfolding to_header
 header-above class word slab is = ap (λ w. w / 8589934592) (sym is.packed) ∙ nothing_above slab.handed slab.count (head_word slab.head) (has_room slab is.valid)
 
 -- and makes that record again
 pub record_in-header : (class index word : ℕ) (slab : SlabRec) → IsHeaderOf class word slab → record_in class index word ≡ record slab { index = index }
-unfolding header_of record_in
+unfolding to_header record_in
 record_in-header class index word slab is =
     let room : HasRoom slab.handed slab.count (head_word slab.head) = has_room slab is.valid in
     let of_class : class ≡ slab.class = sym is.of_class in
@@ -130,10 +118,10 @@ valid-index slab index valid = record { count = valid.count; handed = valid.hand
 pub record_in-valid : (class index word : ℕ) (slab : SlabRec) → IsHeaderOf class word slab → IsValid (record_in class index word)
 record_in-valid class index word slab is = subst IsValid (sym (record_in-header class index word slab is)) (valid-index slab index is.valid)
 
-pub headers_tell : HeadersTellRecords
-headers_tell slab other valid valid_other class index same =
-    let first : record_in slab.class slab.index (header_of slab) ≡ slab = record_in-header slab.class slab.index (header_of slab) slab (record { valid = valid; of_class = refl; packed = refl }) in
-    let second : record_in slab.class slab.index (header_of slab) ≡ record other { index = slab.index } =
-    record_in-header slab.class slab.index (header_of slab) other (record { valid = valid_other; of_class = sym class; packed = sym same }) in
+pub headers_tell_records : HeadersTellRecords
+headers_tell_records slab other valid valid_other class index same =
+    let first : record_in slab.class slab.index (to_header slab) ≡ slab = record_in-header slab.class slab.index (to_header slab) slab (record { valid = valid; of_class = refl; packed = refl }) in
+    let second : record_in slab.class slab.index (to_header slab) ≡ record other { index = slab.index } =
+    record_in-header slab.class slab.index (to_header slab) other (record { valid = valid_other; of_class = sym class; packed = sym same }) in
     let third : record other { index = slab.index } ≡ other = ap (λ i. record other { index = i }) index in
     sym first ∙ (second ∙ third)

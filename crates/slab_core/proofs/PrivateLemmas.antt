@@ -65,17 +65,17 @@ takes_of_rest slab keeps below = record {
 with_head : SlabRec → Option ℕ → SlabRec
 with_head slab head = record slab { head = head }
 
-pub takes : TakesFromPrivateList
+pub takes_from_private_list : TakesFromPrivateList
 unfolding with_head
-takes slab [] keeps =
+takes_from_private_list slab [] keeps =
     let is : slab ≡ with_head slab None = ap (with_head slab) keeps.head in
     subst (λ s. Takes s []) (sym is) (takes_of_rest slab (subst (λ s. Keeps s []) is keeps))
-takes slab (newest ∷ older) keeps =
+takes_from_private_list slab (newest ∷ older) keeps =
     let is : slab ≡ with_head slab (Some newest) = ap (with_head slab) keeps.head in
     subst (λ s. Takes s (newest ∷ older)) (sym is) (takes_newest slab newest older (subst (λ s. Keeps s (newest ∷ older)) is keeps))
 
-pub frees : FreesToPrivateList
-frees slab private object keeps handed other =
+pub frees_to_private_list : FreesToPrivateList
+frees_to_private_list slab private object keeps handed other =
     let below : All (λ one. one < slab.handed) (object ∷ private) = All-cons (λ one. one < slab.handed) object private handed keeps.handed in
     let once : AllPairs (λ one two. one ≢ two) (object ∷ private) = AllPairs-cons (λ one two. one ≢ two) object private (not_in private object other) keeps.once in
     let room : length (object ∷ private) ≤ slab.handed = no_more_than (object ∷ private) slab.handed below once in

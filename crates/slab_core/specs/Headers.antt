@@ -4,25 +4,32 @@ use Rattle.std.specs.Prelude.{◌≡◌, ℕ, suc, zero, ◌+◌, ◌*◌, ◌/�
 use Rattle.slab_core.specs.declared.SlabRec.{SlabRec}
 use Rattle.slab_core.specs.Slabs.{IsValid}
 
+-- what one object that is held counts for in the word, and what one of the head's number does
+abbrev pub count_unit : ℕ
+count_unit = 2048
+
+abbrev pub head_unit : ℕ
+head_unit = count_unit * count_unit
+
 -- the head as a number: the object's plus 1, and 0 where there is none
 abbrev pub head_word : Option ℕ → ℕ
 head_word (Some object) = object + 1
 head_word None = 0
 
 -- the header of a record
-unfoldable pub header_of : SlabRec → ℕ
-header_of slab = slab.handed + 2048 * slab.count + 4194304 * head_word slab.head
+unfoldable pub to_header : SlabRec → ℕ
+to_header slab = slab.handed + count_unit * slab.count + head_unit * head_word slab.head
 
 -- the word is the header of this record, which is a valid one of this class
 pub record IsHeaderOf (class word : ℕ) (slab : SlabRec) : Type 0 where
   pub valid : IsValid slab
   pub of_class : slab.class ≡ class
-  pub packed : header_of slab ≡ word
+  pub packed : to_header slab ≡ word
 
 -- a valid record is the only one with its header, of those with its class and index
 abbrev pub HeadersTellRecords : Type 0
 HeadersTellRecords = (slab other : SlabRec) → IsValid slab → IsValid other → slab.class ≡ other.class → slab.index ≡ other.index →
-    header_of slab ≡ header_of other → slab ≡ other
+    to_header slab ≡ to_header other → slab ≡ other
 
 -- the object that such a number stands for
 abbrev pub object_in : ℕ → Option ℕ
@@ -34,7 +41,7 @@ unfoldable pub record_in : ℕ → ℕ → ℕ → SlabRec
 record_in class index word = record {
   class = class;
   index = index;
-  handed = word % 2048;
-  head = object_in (word / 4194304 % 2048);
-  count = word / 2048 % 2048;
+  handed = word % count_unit;
+  head = object_in (word / head_unit % count_unit);
+  count = word / count_unit % count_unit;
 }

@@ -29,11 +29,11 @@ pub record IsUsedUp (slab : SlabRec) : Type 0 where
 
 -- the slab with one more object held: the head, after which `below` is the newest private one, or else the next of the rest
 abbrev pub after_take : SlabRec → Option ℕ → SlabRec
-after_take slab below = taken slab.head
+after_take slab below = after slab.head
   where
-    taken : Option ℕ → SlabRec
-    taken (Some object) = record slab { head = below; count = slab.count + 1 }
-    taken None = record slab { handed = slab.handed + 1; count = slab.count + 1 }
+    after : Option ℕ → SlabRec
+    after (Some object) = record slab { head = below; count = slab.count + 1 }
+    after None = record slab { handed = slab.handed + 1; count = slab.count + 1 }
 
 -- the object that is taken where there is one
 abbrev pub next_object : SlabRec → ℕ

@@ -6,7 +6,7 @@
 //! 2032 objects, so each number has room. The word is this project's own.
 ghost use Rattle.std.specs.Prelude.{◌≡◌, IsNone, IfSome, ◌↔◌, Some};
 ghost use Rattle.slab_core.specs.Slabs.{IsValid};
-ghost use Rattle.slab_core.specs.Headers.{header_of, IsHeaderOf, record_in, object_in, head_word};
+ghost use Rattle.slab_core.specs.Headers.{to_header, IsHeaderOf, record_in, object_in, head_word};
 
 use crate::SlabRec;
 use size_classes::Class;
@@ -27,11 +27,11 @@ impl SlabRec {
     /// The slab's header word. It needs a valid record.
     pub fn to_header(&self) -> u64
         requires { IsValid self.now }
-        ensures { result ≡ header_of self.now }
+        ensures { result ≡ to_header self.now }
     {
         u64::from(self.handed)
             | u64::from(self.count) << COUNT_SHIFT
-            | head_field(self.head) << HEAD_SHIFT
+            | head_word(self.head) << HEAD_SHIFT
     }
 
     /// The record of a slab of this class, whose first granule has this index, by its header word. None is the answer
@@ -43,7 +43,7 @@ impl SlabRec {
         ensures index { IfSome result (λ slab. slab.index ≡ index) }
         ensures again { (slab : SlabRec) → IsHeaderOf class word slab → result ≡ Some (record slab { index = index }) }
     {
-        let slab = unpacked(class, index, word);
+        let slab = record_in(class, index, word);
         if word >> HEADER_BITS == 0 && slab.is_valid() {
             Some(slab)
         } else {
@@ -53,7 +53,7 @@ impl SlabRec {
 }
 
 /// An object's number plus 1, and 0 where there is none.
-fn head_field(head: Option<u32>) -> u64
+fn head_word(head: Option<u32>) -> u64
     ensures { result ≡ head_word head }
 {
     match head {
@@ -63,21 +63,21 @@ fn head_field(head: Option<u32>) -> u64
 }
 
 /// The object whose number plus 1 this is, and none at 0.
-fn object_of(field: u32) -> Option<u32>
+fn object_in(field: u32) -> Option<u32>
     ensures { result ≡ object_in field }
 {
     field.checked_sub(1)
 }
 
 /// The record that a word's three numbers make. It need not be valid.
-fn unpacked(class: Class, index: u32, word: u64) -> SlabRec
+fn record_in(class: Class, index: u32, word: u64) -> SlabRec
     ensures { result ≡ record_in class index word }
 {
     SlabRec {
         class,
         index,
         handed: (word & FIELD) as u32,
-        head: object_of((word >> HEAD_SHIFT & FIELD) as u32),
+        head: object_in((word >> HEAD_SHIFT & FIELD) as u32),
         count: (word >> COUNT_SHIFT & FIELD) as u32,
     }
 }

@@ -1,29 +1,6 @@
-//! Laws of where a slab's objects lie, of its private list, and of its header. Each is what a function with an empty body
-//! ensures.
-ghost use Rattle.slab_core.specs.Layout.{ObjectsLieInSlab, ObjectsAreApart, RestShrinksFromEnd, SlabsAreLaidOut};
+//! Laws of a slab's private list and of its header. Each is what a function with an empty body ensures.
 ghost use Rattle.slab_core.specs.Headers.{HeadersTellRecords};
 ghost use Rattle.slab_core.specs.PrivateLists.{FreshSlabsKeepNone, KeepersAreValid, TakesFromPrivateList, FreesToPrivateList};
-
-/// Each object lies between the slab's head and its end.
-pub fn objects_lie_in_slab()
-    ensures { ObjectsLieInSlab }
-{}
-
-/// No two objects of a slab share a byte.
-pub fn objects_are_apart()
-    ensures { ObjectsAreApart }
-{}
-
-/// The object that is next in the rest is the highest one of it.
-pub fn rest_shrinks_from_end()
-    ensures { RestShrinksFromEnd }
-{}
-
-/// The head has 128 bytes or more. The rest goes from it to the slab's end before an object was handed out, and has no
-/// byte once all were.
-pub fn slabs_are_laid_out()
-    ensures { SlabsAreLaidOut }
-{}
 
 /// A slab of which no object was handed out has no private object.
 pub fn fresh_slabs_keep_none()

@@ -1,22 +1,17 @@
-//! One slab: which of its objects were handed out, the newest that came back, where they lie, and its header word.
+//! One slab: which of its objects were handed out, the newest that came back, and its header word.
 //!
-//! A slab has 16384 bytes: a head, and behind it objects of one size. The record follows a block of oneTBB's
+//! A slab has a head, and behind it objects of one size. The record follows a block of oneTBB's
 //! `src/tbbmalloc/frontend.cpp` (`Block`: `bumpPtr`, `freeList` and `allocatedCount`). That objects go by their number
 //! is this project's own.
 #![tactic(auto)]
 
-ghost use Rattle.std.specs.Prelude.{◌≡◌, ◌≤◌, ◌<◌, ◌+◌, ◌*◌, ◌/◌, IsTrue, IsNone, ◌↔◌, None, IfSome, OnSome, IfNone};
-ghost use Rattle.size_classes.specs.Classes.{class_size, class_objects};
-ghost use Rattle.slab_core.specs.Layout.{object_offset, head_bytes};
+ghost use Rattle.std.specs.Prelude.{◌≡◌, ◌≤◌, ◌<◌, IsTrue, IsNone, ◌↔◌, None, IfSome, OnSome, IfNone};
 ghost use Rattle.slab_core.specs.Slabs.{IsValid, IsNewest, IsBelowHead, IsUsedUp, after_take, after_free, next_object};
 
 use size_classes::Class;
 
 mod header;
 pub mod laws;
-
-/// The bytes of a slab.
-pub const SLAB_BYTES: u32 = 16384;
 
 /// The record of a slab. Objects go by their number in the slab, from 0 for the one at the slab's end.
 ///
@@ -117,19 +112,6 @@ impl SlabRec {
     {
         self.count == 0
     }
-}
-
-/// Where an object of a slab of this class starts, in bytes from the slab's start. It is a multiple of 8, and of 16 but
-/// for the smallest class.
-pub fn object_offset(class: Class, object: u32) -> u32
-    requires { object < class_objects class }
-    ensures exact { result ≡ object_offset class object }
-    ensures behind_head { head_bytes class ≤ result }
-    ensures before_end { result + class_size class ≤ 16384 }
-    ensures eights { result ≡ 8 * (result / 8) }
-    ensures sixteens { 0 < class → result ≡ 16 * (result / 16) }
-{
-    SLAB_BYTES - (object + 1) * class.size() as u32
 }
 
 #[cfg(test)]

@@ -119,20 +119,3 @@ fn refuses_what_is_no_header(rt: HostRuntime) {
         assert!(rt; SlabRec::of_header(class, 0, word).is_none(), "{what}");
     }
 }
-
-/// The offsets of objects of the smallest and the largest class, and of one between.
-#[test]
-fn lays_objects_from_the_end(rt: HostRuntime) {
-    let table: [(u64, u32, u32); 5] = [
-        (1, 0, 16376),
-        (8, 2031, 128),
-        (100, 0, 16272),
-        (8128, 0, 8256),
-        (8128, 1, 128),
-    ];
-    for (size, object, offset) in table {
-        let class = class_of(size).expect(&rt, "the size has a class");
-        assert!(rt; object < class.objects());
-        assert_eq!(rt; object_offset(class, object), offset, "at {size}");
-    }
-}

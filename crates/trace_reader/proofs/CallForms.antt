@@ -1,7 +1,7 @@
 -- What holds of the values that words of a form are read as.
 use Rattle.std.proofs.Common.{◌≡◌, ℕ, ◌+◌, ◌≤◌, inl, inr, Bool, true, false, List, refl, sym, ◌∙◌, ap, subst}
 use Rattle.std.specs.Prelude.{Result, Ok, Some, slice_get}
-use Rattle.trace_reader.specs.declared.refusal.Fault.{Fault}
+use Rattle.trace_reader.specs.declared.refusal.Refusal.{Refusal}
 use Rattle.trace_reader.specs.declared.names.BoundName.{BoundName}
 use Rattle.trace_reader.specs.declared.acts.What.{What}
 use Rattle.trace_reader.specs.declared.acts.What.TheVariants as what
@@ -9,18 +9,19 @@ use Rattle.trace_reader.specs.declared.acts.TraceCall.{TraceCall}
 use Rattle.trace_reader.specs.declared.acts.TraceCall.TheVariants as call
 use Rattle.trace_reader.specs.declared.keywords.CallWord.{CallWord}
 use Rattle.trace_reader.specs.declared.keywords.CallWord.TheVariants.{MallocWord, AlignedWord, ReallocWord, AlignedReallocWord, FreeWord, MsizeWord, IdentifyWord, ExitWord}
-use Rattle.trace_reader.specs.Forms.{Then, Ends, Wraps}
-use Rattle.trace_reader.specs.Slots.{Before, ReadsSize, ReadsNewName, ReadsWhat}
+use Rattle.trace_reader.specs.Combinators.{Then, Ends, Wraps}
+use Rattle.trace_reader.specs.Contexts.{Context}
+use Rattle.trace_reader.specs.Slots.{ReadsSize, ReadsNewName, ReadsWhat}
 use Rattle.trace_reader.specs.Acts.{AnyNumber, BindingCall, PlainCall, ReadsCall, ReadsCallWord, bound_by}
 use Rattle.trace_reader.specs.Served.{HasSmallSize, IsAskedOfBound, IsNewTo, asked_of, is_among, word_of_call}
 use Rattle.trace_reader.proofs.ContextLemmas.{word_read}
 use Rattle.trace_reader.proofs.OneSlot.{ok_same, not_both}
 
 -- whatever words of the form are read as, this holds of it
-abbrev pub Holds : {A : Type 0} → (A → Type 0) → (List (List ℕ) → ℕ → Result A Fault → Type 0) → Type 0
+abbrev pub Holds : {A : Type 0} → (A → Type 0) → (List (List ℕ) → ℕ → Result A Refusal → Type 0) → Type 0
 Holds {A} P form = (words : List (List ℕ)) (at : ℕ) (value : A) → form words at (Ok value) → P value
 
-pub then_holds : {A B : Type 0} (P : B → Type 0) (slot : List ℕ → Result A Fault → Type 0) (next : A → List (List ℕ) → ℕ → Result B Fault → Type 0) →
+pub then_holds : {A B : Type 0} (P : B → Type 0) (slot : List ℕ → Result A Refusal → Type 0) (next : A → List (List ℕ) → ℕ → Result B Refusal → Type 0) →
     ((a : A) (word : List ℕ) → slot word (Ok a) → Holds P (next a)) → Holds P (Then slot next)
 then_holds {A} {B} P slot next holds words at value read = elim read [
   | inl refused ↦ absurd (not_both refused.2)
@@ -33,7 +34,7 @@ ends_holds {A} P value is words at other read = elim read [
   | inr more ↦ absurd (not_both more.1)
 ]
 
-pub wraps_holds : {A B : Type 0} (Q : A → Type 0) (P : B → Type 0) (wrap : A → B) (form : List (List ℕ) → ℕ → Result A Fault → Type 0) → ((a : A) → Q a → P (wrap a)) → Holds Q form → Holds P (Wraps wrap form)
+pub wraps_holds : {A B : Type 0} (Q : A → Type 0) (P : B → Type 0) (wrap : A → B) (form : List (List ℕ) → ℕ → Result A Refusal → Type 0) → ((a : A) → Q a → P (wrap a)) → Holds Q form → Holds P (Wraps wrap form)
 wraps_holds {A} {B} Q P wrap form gives holds words at value read = elim read [
   | inl refused ↦ absurd (not_both refused.2)
   | inr went ↦ subst P (sym (ok_same went.2)) (gives went.0 (holds words at went.0 went.1))
@@ -46,7 +47,7 @@ IsSmallCall word call = (word_of_call call ≡ word) × HasSmallSize call
 small_size : (size : ℕ) (word : List ℕ) → ReadsSize false word (Ok size) → size ≤ 8128
 small_size size word read = elim read.1 [ inl is ↦ let h : false ≡ true = is in absurd (cc) | inr small ↦ small ]
 
-pub binding_small : (before : Before) (name : BoundName) (word : CallWord) → Holds (IsSmallCall word) (BindingCall false before name word)
+pub binding_small : (before : Context) (name : BoundName) (word : CallWord) → Holds (IsSmallCall word) (BindingCall false before name word)
 binding_small before name MallocWord = then_holds (IsSmallCall MallocWord) (ReadsSize false) (λ size. Ends (call.Malloc name size))
     (λ size text read. ends_holds (IsSmallCall MallocWord) (call.Malloc name size) (refl, small_size size text read))
 binding_small before name AlignedWord = then_holds (IsSmallCall AlignedWord) AnyNumber (λ size. Then AnyNumber (λ alignment. Ends (call.Aligned name size alignment)))
@@ -63,7 +64,7 @@ binding_small before name MsizeWord = λ words at value read. absurd read
 binding_small before name IdentifyWord = λ words at value read. absurd read
 binding_small before name ExitWord = λ words at value read. absurd read
 
-pub plain_small : (before : Before) (word : CallWord) → Holds (IsSmallCall word) (PlainCall before word)
+pub plain_small : (before : Context) (word : CallWord) → Holds (IsSmallCall word) (PlainCall before word)
 plain_small before FreeWord = then_holds (IsSmallCall FreeWord) (ReadsWhat before) (λ what. Ends (call.Free what)) (λ what text read. ends_holds (IsSmallCall FreeWord) (call.Free what) (refl, tt))
 plain_small before MsizeWord = then_holds (IsSmallCall MsizeWord) (ReadsWhat before) (λ what. Ends (call.Msize what)) (λ what text read. ends_holds (IsSmallCall MsizeWord) (call.Msize what) (refl, tt))
 plain_small before IdentifyWord = then_holds (IsSmallCall IdentifyWord) (ReadsWhat before) (λ what. Ends (call.Identify what)) (λ what text read. ends_holds (IsSmallCall IdentifyWord) (call.Identify what) (refl, tt))
@@ -76,22 +77,22 @@ plain_small before AlignedReallocWord = λ words at value read. absurd read
 -- names that calls bind and ask for
 
 -- these names were bound before
-abbrev pub AreBound : List (List ℕ) → Before → Type 0
+abbrev pub AreBound : List (List ℕ) → Context → Type 0
 AreBound names before = (word : List ℕ) → before.bound word ≡ is_among names word
 
 -- the call asks for one of the names at most, and binds none of them
 abbrev pub IsInTurn : List (List ℕ) → TraceCall → Type 0
 IsInTurn names call = IsAskedOfBound names (asked_of call) × IsNewTo names (bound_by call)
 
-asked_bound : (names : List (List ℕ)) (before : Before) → AreBound names before → (word : List ℕ) (what : What) → ReadsWhat before word (Ok what) → IsAskedOfBound names (Some what)
+asked_bound : (names : List (List ℕ)) (before : Context) → AreBound names before → (word : List ℕ) (what : What) → ReadsWhat before word (Ok what) → IsAskedOfBound names (Some what)
 asked_bound names before bound word what.Null read = tt
 asked_bound names before bound word (what.Name name) read = ap (λ (w : List ℕ). is_among names w) (sym read.0) ∙ sym (bound word) ∙ read.2
 asked_bound names before bound word (what.Place place) read = tt
 
-new_name : (names : List (List ℕ)) (before : Before) → AreBound names before → (word : List ℕ) (name : BoundName) → ReadsNewName before word (Ok name) → is_among names name.bytes.items ≡ false
+new_name : (names : List (List ℕ)) (before : Context) → AreBound names before → (word : List ℕ) (name : BoundName) → ReadsNewName before word (Ok name) → is_among names name.bytes.items ≡ false
 new_name names before bound word name read = ap (λ (w : List ℕ). is_among names w) (sym read.0) ∙ sym (bound word) ∙ read.2
 
-binding_turn : (more : Bool) (names : List (List ℕ)) (before : Before) → AreBound names before → (name : BoundName) → is_among names name.bytes.items ≡ false → (word : CallWord) → Holds (IsInTurn names) (BindingCall more before name word)
+binding_turn : (more : Bool) (names : List (List ℕ)) (before : Context) → AreBound names before → (name : BoundName) → is_among names name.bytes.items ≡ false → (word : CallWord) → Holds (IsInTurn names) (BindingCall more before name word)
 binding_turn more names before bound name new MallocWord = then_holds (IsInTurn names) (ReadsSize more) (λ size. Ends (call.Malloc name size))
     (λ size text read. ends_holds (IsInTurn names) (call.Malloc name size) (tt, new))
 binding_turn more names before bound name new AlignedWord = then_holds (IsInTurn names) AnyNumber (λ size. Then AnyNumber (λ alignment. Ends (call.Aligned name size alignment)))
@@ -109,7 +110,7 @@ binding_turn more names before bound name new MsizeWord = λ words at value read
 binding_turn more names before bound name new IdentifyWord = λ words at value read. absurd read
 binding_turn more names before bound name new ExitWord = λ words at value read. absurd read
 
-plain_turn : (names : List (List ℕ)) (before : Before) → AreBound names before → (word : CallWord) → Holds (IsInTurn names) (PlainCall before word)
+plain_turn : (names : List (List ℕ)) (before : Context) → AreBound names before → (word : CallWord) → Holds (IsInTurn names) (PlainCall before word)
 plain_turn names before bound FreeWord = then_holds (IsInTurn names) (ReadsWhat before) (λ what. Ends (call.Free what)) (λ what text read. ends_holds (IsInTurn names) (call.Free what) (asked_bound names before bound text what read, tt))
 plain_turn names before bound MsizeWord = then_holds (IsInTurn names) (ReadsWhat before) (λ what. Ends (call.Msize what)) (λ what text read. ends_holds (IsInTurn names) (call.Msize what) (asked_bound names before bound text what read, tt))
 plain_turn names before bound IdentifyWord = then_holds (IsInTurn names) (ReadsWhat before) (λ what. Ends (call.Identify what)) (λ what text read. ends_holds (IsInTurn names) (call.Identify what) (asked_bound names before bound text what read, tt))
@@ -119,7 +120,7 @@ plain_turn names before bound AlignedWord = λ words at value read. absurd read
 plain_turn names before bound ReallocWord = λ words at value read. absurd read
 plain_turn names before bound AlignedReallocWord = λ words at value read. absurd read
 
-pub call_turn : (more : Bool) (names : List (List ℕ)) (before : Before) → AreBound names before → Holds (IsInTurn names) (ReadsCall more before)
+pub call_turn : (more : Bool) (names : List (List ℕ)) (before : Context) → AreBound names before → Holds (IsInTurn names) (ReadsCall more before)
 call_turn more names before bound words at value read = elim read [
   | inl named ↦ then_holds (IsInTurn names) (ReadsNewName before) (λ name words at. Then (ReadsCallWord true) (BindingCall more before name) words (at + 1))
       (λ name text new words at. then_holds (IsInTurn names) (ReadsCallWord true) (BindingCall more before name) (λ word other read. binding_turn more names before bound name (new_name names before bound text name new) word) words (at + 1))

@@ -1,8 +1,8 @@
+pub mod CallerLemmas
 pub mod WordLemmas
 pub mod NumberLemmas
 pub mod SlotLemmas
 pub mod OptionLemmas
-pub mod RowLemmas
 pub mod ThreadLemmas
 pub mod ContextLemmas
 pub mod TextLemmas

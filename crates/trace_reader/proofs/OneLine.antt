@@ -3,7 +3,8 @@ use Rattle.std.proofs.Common.{◌≡◌, ◌≢◌, ℕ, ◌+◌, ◌<◌, ◌�
 use Rattle.std.specs.Prelude.{Result, Ok, Err, Some, None, slice_get}
 use Rattle.std.specs.declared.option.Option.{Option}
 use Rattle.arrayvec.specs.ArrayVec.{ArrayVec}
-use Rattle.trace_reader.specs.declared.refusal.Fault.{Fault}
+use Rattle.pool_types.specs.Limits.{most_turns}
+use Rattle.trace_reader.specs.declared.refusal.Refusal.{Refusal}
 use Rattle.trace_reader.specs.declared.names.BoundName.{BoundName}
 use Rattle.trace_reader.specs.declared.keywords.Keyword.{Keyword}
 use Rattle.trace_reader.specs.declared.keywords.Keyword.TheVariants.{ThreadsWord, PoolWord, RawWord, BeginWord, StepWord, UpToWord, FinishWord, ResetWord, DestroyWord}
@@ -17,22 +18,23 @@ use Rattle.trace_reader.specs.declared.acts.TraceCall.TheVariants as call
 use Rattle.trace_reader.specs.declared.acts.Act.{Act}
 use Rattle.trace_reader.specs.declared.acts.Act.TheVariants as act
 use Rattle.trace_reader.specs.Keywords.{keyword_text}
-use Rattle.trace_reader.specs.Forms.{OnWord, Then, Ends, Wraps}
-use Rattle.trace_reader.specs.Slots.{Before, ReadsNumber, ReadsSize, ReadsThread, ReadsPool, ReadsNextPool, ReadsNewName, ReadsWhat}
+use Rattle.trace_reader.specs.Combinators.{OnWord, Then, Ends, Wraps}
+use Rattle.trace_reader.specs.Contexts.{Context}
+use Rattle.trace_reader.specs.Slots.{ReadsNumber, ReadsSize, ReadsThread, ReadsPool, ReadsNextPool, ReadsNewName, ReadsWhat}
 use Rattle.trace_reader.specs.Acts.{AnyNumber, BindingCall, CallLine, IsPlainPool, KeywordLine, NamedCall, PlainCall, PoolOptions, RawEntry, ReadsCall, ReadsCallWord, ReadsName, ReadsNames, ReadsRow, ReadsScriptWord, ReadsWords, ThreadsLine, serves_call, serves_keyword, serves_more}
 use Rattle.trace_reader.proofs.OneWord.{keyword_same, some_same}
 use Rattle.trace_reader.proofs.OneSlot.{OneWay, ok_same, err_same, not_both, yes_no, number_one, any_one, size_one, thread_one, pool_one, next_pool_one, new_name_one, what_one, script_one, call_word_one, row_one}
 use Rattle.trace_reader.proofs.OneOption.{options_one}
 
 -- words are read in one way by a form
-abbrev OneForm : {A : Type 0} → (List (List ℕ) → ℕ → Result A Fault → Type 0) → Type 0
-OneForm {A} form = (words : List (List ℕ)) (at : ℕ) (one other : Result A Fault) → form words at one → form words at other → one ≡ other
+abbrev OneForm : {A : Type 0} → (List (List ℕ) → ℕ → Result A Refusal → Type 0) → Type 0
+OneForm {A} form = (words : List (List ℕ)) (at : ℕ) (one other : Result A Refusal) → form words at one → form words at other → one ≡ other
 
-on_word_one : {A : Type 0} (slot : List ℕ → Result A Fault → Type 0) → OneWay slot → (word : Option (List ℕ)) (one other : Result A Fault) → OnWord slot word one → OnWord slot word other → one ≡ other
+on_word_one : {A : Type 0} (slot : List ℕ → Result A Refusal → Type 0) → OneWay slot → (word : Option (List ℕ)) (one other : Result A Refusal) → OnWord slot word one → OnWord slot word other → one ≡ other
 on_word_one slot clear None one other h k = h ∙ sym k
 on_word_one slot clear (Some word) one other h k = clear word one other h k
 
-then_one : {A B : Type 0} (slot : List ℕ → Result A Fault → Type 0) (next : A → List (List ℕ) → ℕ → Result B Fault → Type 0) → OneWay slot → ((a : A) → OneForm (next a)) → OneForm (Then slot next)
+then_one : {A B : Type 0} (slot : List ℕ → Result A Refusal → Type 0) (next : A → List (List ℕ) → ℕ → Result B Refusal → Type 0) → OneWay slot → ((a : A) → OneForm (next a)) → OneForm (Then slot next)
 then_one {A} {B} slot next clear more words at one other h k = elim h [
   | inl p ↦ elim k [
     | inl q ↦ let e : p.0 ≡ q.0 = err_same (on_word_one slot clear (slice_get words at) (Err p.0) (Err q.0) p.1 q.1) in cc
@@ -52,7 +54,7 @@ ends_one value words at one other h k = elim h [
   | inr p ↦ elim k [ inl q ↦ absurd (omega (arith, p.0, q.0)) | inr q ↦ p.1 ∙ sym q.1 ]
 ]
 
-wraps_one : {A B : Type 0} (wrap : A → B) (form : List (List ℕ) → ℕ → Result A Fault → Type 0) → OneForm form → OneForm (Wraps wrap form)
+wraps_one : {A B : Type 0} (wrap : A → B) (form : List (List ℕ) → ℕ → Result A Refusal → Type 0) → OneForm form → OneForm (Wraps wrap form)
 wraps_one {A} {B} wrap form clear words at one other h k = elim h [
   | inl p ↦ elim k [
     | inl q ↦ let e : p.0 ≡ q.0 = err_same (clear words at (Err p.0) (Err q.0) p.1 q.1) in cc
@@ -66,7 +68,7 @@ wraps_one {A} {B} wrap form clear words at one other h k = elim h [
 
 -- calls
 
-binding_one : (more : Bool) (before : Before) (name : BoundName) (word : CallWord) → OneForm (BindingCall more before name word)
+binding_one : (more : Bool) (before : Context) (name : BoundName) (word : CallWord) → OneForm (BindingCall more before name word)
 binding_one more before name MallocWord = then_one (ReadsSize more) (λ size. Ends (call.Malloc name size)) (size_one more) (λ size. ends_one (call.Malloc name size))
 binding_one more before name AlignedWord = then_one AnyNumber (λ size. Then AnyNumber (λ alignment. Ends (call.Aligned name size alignment))) any_one
     (λ size. then_one AnyNumber (λ alignment. Ends (call.Aligned name size alignment)) any_one (λ alignment. ends_one (call.Aligned name size alignment)))
@@ -80,7 +82,7 @@ binding_one more before name MsizeWord = λ words at one other h k. absurd h
 binding_one more before name IdentifyWord = λ words at one other h k. absurd h
 binding_one more before name ExitWord = λ words at one other h k. absurd h
 
-plain_one : (before : Before) (word : CallWord) → OneForm (PlainCall before word)
+plain_one : (before : Context) (word : CallWord) → OneForm (PlainCall before word)
 plain_one before FreeWord = then_one (ReadsWhat before) (λ what. Ends (call.Free what)) (what_one before) (λ what. ends_one (call.Free what))
 plain_one before MsizeWord = then_one (ReadsWhat before) (λ what. Ends (call.Msize what)) (what_one before) (λ what. ends_one (call.Msize what))
 plain_one before IdentifyWord = then_one (ReadsWhat before) (λ what. Ends (call.Identify what)) (what_one before) (λ what. ends_one (call.Identify what))
@@ -90,11 +92,11 @@ plain_one before AlignedWord = λ words at one other h k. absurd h
 plain_one before ReallocWord = λ words at one other h k. absurd h
 plain_one before AlignedReallocWord = λ words at one other h k. absurd h
 
-named_one : (more : Bool) (before : Before) → OneForm (NamedCall more before)
+named_one : (more : Bool) (before : Context) → OneForm (NamedCall more before)
 named_one more before = then_one (ReadsNewName before) (λ name words at. Then (ReadsCallWord true) (BindingCall more before name) words (at + 1)) (new_name_one before)
     (λ name words at. then_one (ReadsCallWord true) (BindingCall more before name) (call_word_one true) (binding_one more before name) words (at + 1))
 
-call_one : (more : Bool) (before : Before) → OneForm (ReadsCall more before)
+call_one : (more : Bool) (before : Context) → OneForm (ReadsCall more before)
 call_one more before words at one other h k = elim h [
   | inl p ↦ elim k [ inl q ↦ named_one more before words at one other p.1 q.1 | inr q ↦ absurd (q.0 p.0) ]
   | inr p ↦ elim k [ inl q ↦ absurd (p.0 q.0) | inr q ↦ then_one (ReadsCallWord false) (PlainCall before) (call_word_one false) (plain_one before) words at one other p.1 q.1 ]
@@ -105,7 +107,7 @@ call_one more before words at one other h k = elim h [
 absent : (more : Bool) (had : List (List ℕ)) → had ≢ [] → more ≡ false → (had ≡ []) ⊎ (more ≡ true) → ⊥
 absent more had some not may = elim may [ inl none ↦ some none | inr is ↦ yes_no more is not ]
 
-name_mixed : (more : Bool) (had : List (List ℕ)) (word name : List ℕ) (f : Fault) → ReadsName more had word (Ok name) → ReadsName more had word (Err f) → ⊥
+name_mixed : (more : Bool) (had : List (List ℕ)) (word name : List ℕ) (f : Refusal) → ReadsName more had word (Ok name) → ReadsName more had word (Err f) → ⊥
 name_mixed more had word name f h k = elim k [
   | inl q ↦ absent more had q.0 q.1 h.1
   | inr r ↦ elim r [
@@ -150,7 +152,7 @@ name_one more had word (Err f) (Err g) h k = elim h [
   ]
 ]
 
-names_one : (more : Bool) (had words : List (List ℕ)) (one other : Result Act Fault) → ReadsNames more had words one → ReadsNames more had words other → one ≡ other
+names_one : (more : Bool) (had words : List (List ℕ)) (one other : Result Act Refusal) → ReadsNames more had words one → ReadsNames more had words other → one ≡ other
 names_one more had [] one other h k = elim h [
   | inl p ↦ elim k [ inl q ↦ p.1 ∙ sym q.1 | inr q ↦ absurd (q.0 p.0) ]
   | inr p ↦ elim k [ inl q ↦ absurd (p.0 q.0) | inr q ↦ p.1 ∙ sym q.1 ]
@@ -166,10 +168,10 @@ names_one more had (word ∷ words) one other h k = elim h [
   ]
 ]
 
-threads_clash : (before : Before) → before.names ≡ [] → before.pools ≡ 0 → (before.names ≢ []) ⊎ (0 < before.pools) → ⊥
+threads_clash : (before : Context) → before.names ≡ [] → before.pools ≡ 0 → (before.names ≢ []) ⊎ (0 < before.pools) → ⊥
 threads_clash before none zero some = elim some [ inl names ↦ names none | inr pools ↦ omega arith ]
 
-threads_one : (more : Bool) (before : Before) (words : List (List ℕ)) (one other : Result Act Fault) → ThreadsLine more before words one → ThreadsLine more before words other → one ≡ other
+threads_one : (more : Bool) (before : Context) (words : List (List ℕ)) (one other : Result Act Refusal) → ThreadsLine more before words one → ThreadsLine more before words other → one ≡ other
 threads_one more before words one other h k = elim h [
   | inl p ↦ elim k [ inl q ↦ names_one more [] (drop 1 words) one other p.2 q.2 | inr q ↦ absurd (threads_clash before p.0 p.1 q.0) ]
   | inr p ↦ elim k [ inl q ↦ absurd (threads_clash before q.0 q.1 p.0) | inr q ↦ p.1 ∙ sym q.1 ]
@@ -218,7 +220,7 @@ raw_one pool PutFailWord = ends_one (act.RawPutFail pool)
 
 -- all lines
 
-keyword_line_one : (more : Bool) (before : Before) (key : Keyword) (words : List (List ℕ)) (one other : Result Act Fault) → KeywordLine more before key words one → KeywordLine more before key words other → one ≡ other
+keyword_line_one : (more : Bool) (before : Context) (key : Keyword) (words : List (List ℕ)) (one other : Result Act Refusal) → KeywordLine more before key words one → KeywordLine more before key words other → one ≡ other
 keyword_line_one more before ThreadsWord words one other h k = threads_one more before words one other h k
 keyword_line_one more before PoolWord words one other h k = then_one (ReadsNextPool before) (PoolOptions more) (next_pool_one before) (pool_options_one more) words 1 one other h k
 keyword_line_one more before RawWord words one other h k =
@@ -227,9 +229,9 @@ keyword_line_one more before BeginWord words one other h k =
     then_one (ReadsThread before) (λ thread. Then (ReadsPool before) (λ pool. Wraps (act.Begin thread pool) (ReadsCall more before))) (thread_one before)
     (λ thread. then_one (ReadsPool before) (λ pool. Wraps (act.Begin thread pool) (ReadsCall more before)) (pool_one before) (λ pool. wraps_one (act.Begin thread pool) (ReadsCall more before) (call_one more before))) words 1 one other h k
 keyword_line_one more before StepWord words one other h k =
-    then_one (ReadsThread before) (λ thread. Then (ReadsPool before) (λ pool. Then (ReadsNumber 1 1000000) (λ turns. Ends (act.Step thread pool turns)))) (thread_one before)
-    (λ thread. then_one (ReadsPool before) (λ pool. Then (ReadsNumber 1 1000000) (λ turns. Ends (act.Step thread pool turns))) (pool_one before)
-    (λ pool. then_one (ReadsNumber 1 1000000) (λ turns. Ends (act.Step thread pool turns)) (number_one 1 1000000 (omega arith)) (λ turns. ends_one (act.Step thread pool turns)))) words 1 one other h k
+    then_one (ReadsThread before) (λ thread. Then (ReadsPool before) (λ pool. Then (ReadsNumber 1 most_turns) (λ turns. Ends (act.Step thread pool turns)))) (thread_one before)
+    (λ thread. then_one (ReadsPool before) (λ pool. Then (ReadsNumber 1 most_turns) (λ turns. Ends (act.Step thread pool turns))) (pool_one before)
+    (λ pool. then_one (ReadsNumber 1 most_turns) (λ turns. Ends (act.Step thread pool turns)) (number_one 1 most_turns (omega arith)) (λ turns. ends_one (act.Step thread pool turns)))) words 1 one other h k
 keyword_line_one more before UpToWord words one other h k =
     then_one (ReadsThread before) (λ thread. Then (ReadsPool before) (λ pool. Then ReadsRow (λ row. Ends (act.UpTo thread pool row)))) (thread_one before)
     (λ thread. then_one (ReadsPool before) (λ pool. Then ReadsRow (λ row. Ends (act.UpTo thread pool row))) (pool_one before)
@@ -240,7 +242,7 @@ keyword_line_one more before FinishWord words one other h k =
 keyword_line_one more before ResetWord words one other h k = then_one (ReadsPool before) (λ pool. Ends (act.Reset pool)) (pool_one before) (λ pool. ends_one (act.Reset pool)) words 1 one other h k
 keyword_line_one more before DestroyWord words one other h k = then_one (ReadsPool before) (λ pool. Ends (act.Destroy pool)) (pool_one before) (λ pool. ends_one (act.Destroy pool)) words 1 one other h k
 
-call_line_one : (more : Bool) (before : Before) (words : List (List ℕ)) (one other : Result Act Fault) → CallLine more before words one → CallLine more before words other → one ≡ other
+call_line_one : (more : Bool) (before : Context) (words : List (List ℕ)) (one other : Result Act Refusal) → CallLine more before words one → CallLine more before words other → one ≡ other
 call_line_one more before words one other h k =
     then_one (ReadsThread before) (λ thread. Then (ReadsPool before) (λ pool. Wraps (act.Call thread pool) (ReadsCall more before))) (thread_one before)
     (λ thread. then_one (ReadsPool before) (λ pool. Wraps (act.Call thread pool) (ReadsCall more before)) (pool_one before) (λ pool. wraps_one (act.Call thread pool) (ReadsCall more before) (call_one more before))) words 0 one other h k
@@ -248,7 +250,7 @@ call_line_one more before words one other h k =
 key_same : (words : List (List ℕ)) (one other : Keyword) → slice_get words 0 ≡ Some (keyword_text one) → slice_get words 0 ≡ Some (keyword_text other) → one ≡ other
 key_same words one other h k = keyword_same one other (some_same (sym h ∙ k))
 
-pub words_one : (forms : Forms) (before : Before) (words : List (List ℕ)) (one other : Result Act Fault) → ReadsWords forms before words one → ReadsWords forms before words other → one ≡ other
+pub words_one : (forms : Forms) (before : Context) (words : List (List ℕ)) (one other : Result Act Refusal) → ReadsWords forms before words one → ReadsWords forms before words other → one ≡ other
 words_one forms before words one other h k = elim h [
   | inl p ↦ elim k [
     | inl q ↦ let e : p.0 ≡ q.0 = key_same words p.0 q.0 p.1 q.1 in

@@ -8,7 +8,7 @@ use Rattle.std.proofs.lemmas.Fmt.{decimal_injective, digits_decimal}
 use Rattle.std.proofs.lemmas.Str.Parse.{IsNumeralModel, numerals_by_value, tells_all_ascii_digits}
 use Rattle.std.specs.Str.Parse.{digits_value}
 use Rattle.std.proofs.lemmas.Bool.Decides.{nat_tests}
-use Rattle.trace_reader.specs.declared.refusal.Fault.{Fault}
+use Rattle.trace_reader.specs.declared.refusal.Refusal.{Refusal}
 use Rattle.trace_reader.specs.declared.acts.PoolOption.{PoolOption}
 use Rattle.trace_reader.specs.declared.options.ValueWord.{ValueWord}
 use Rattle.trace_reader.specs.declared.options.ValueWord.TheVariants.{GranValue, RegionValue, SpanValue, VersionValue, ReservedValue}
@@ -194,7 +194,7 @@ option_one word one other h k = elim h [
   ]
 ]
 
-pub options_one : (had : List PoolOption) (words : List (List ℕ)) (one other : Result (List PoolOption) Fault) → ReadsOptions had words one → ReadsOptions had words other → one ≡ other
+pub options_one : (had : List PoolOption) (words : List (List ℕ)) (one other : Result (List PoolOption) Refusal) → ReadsOptions had words one → ReadsOptions had words other → one ≡ other
 options_one had [] one other h k = h ∙ sym k
 options_one had (word ∷ words) one other h k = elim h [
   | inl p ↦ elim k [

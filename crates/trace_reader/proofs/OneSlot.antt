@@ -1,30 +1,35 @@
 -- Each word is read in one way in its place.
-use Rattle.std.proofs.Common.{◌≡◌, zero, suc, ℕ, ◌-◌, ◌<◌, ◌≤◌, ◌^◌, ◌⊎◌, inl, inr, Bool, true, false, List, [], ◌∷◌, ◌++◌, get_or, refl, sym, ◌∙◌, ap, subst, arith}
-use Rattle.std.specs.Prelude.{Result, Ok, Err, codes}
+use Rattle.std.proofs.Common.{◌≡◌, ℕ, ◌-◌, ◌<◌, ◌≤◌, ◌^◌, ◌⊎◌, inl, inr, Bool, true, false, List, [], ◌∷◌, ◌++◌, get_or, refl, sym, ◌∙◌, ap, subst, arith}
+use Rattle.std.specs.Prelude.{Result, Ok, Err, Some, None, codes}
 use Rattle.std.specs.Fmt.{decimal}
+use Rattle.std.proofs.lemmas.Bool.{cases_lt}
 use Rattle.std.proofs.lemmas.Fmt.{decimal_injective}
 use Rattle.pool_types.specs.declared.values.Place.{Place}
-use Rattle.trace_reader.specs.declared.refusal.Fault.{Fault}
+use Rattle.trace_reader.specs.Laws.{PlacesAreReadBack, RowsAreReadBack}
+use Rattle.trace_reader.specs.declared.refusal.Refusal.{Refusal}
 use Rattle.trace_reader.specs.declared.names.BoundName.{BoundName}
 use Rattle.trace_reader.specs.declared.acts.What.{What}
 use Rattle.trace_reader.specs.declared.acts.What.TheVariants as what
 use Rattle.trace_reader.specs.Names.{IsBoundName, is_name}
-use Rattle.trace_reader.specs.Slots.{Before, IsMisread, IsFirstAt, IsWritable, ReadsNumber, ReadsSize, ReadsThread, ReadsPool, ReadsNextPool, ReadsNewName, ReadsWhat, is_text, pool_text, place_text}
+use Rattle.trace_reader.specs.Contexts.{Context}
+use Rattle.trace_reader.specs.Slots.{IsMisread, IsFirstAt, IsWritable, ReadsNumber, ReadsSize, ReadsThread, ReadsPool, ReadsNextPool, ReadsNewName, ReadsWhat, is_text, pool_text}
+use Rattle.pool_types.specs.Texts.{place_text}
 use Rattle.trace_reader.specs.Acts.{AnyNumber, ReadsCallWord, ReadsRow, ReadsScriptWord}
-use Rattle.trace_reader.proofs.SlotLemmas.{one_front, HasNo-decimal}
-use Rattle.trace_reader.proofs.OneWord.{call_same, row_same, script_same}
+use Rattle.pool_types.proofs.CallerLemmas.{row_name-own}
+use Rattle.trace_reader.proofs.SlotLemmas.{one_front, HasNo-decimal, place_text-digit}
+use Rattle.trace_reader.proofs.OneWord.{call_same, script_same}
 
 -- a word is read in one way
-abbrev pub OneWay : {A : Type 0} → (List ℕ → Result A Fault → Type 0) → Type 0
-OneWay {A} slot = (word : List ℕ) (one other : Result A Fault) → slot word one → slot word other → one ≡ other
+abbrev pub OneWay : {A : Type 0} → (List ℕ → Result A Refusal → Type 0) → Type 0
+OneWay {A} slot = (word : List ℕ) (one other : Result A Refusal) → slot word one → slot word other → one ≡ other
 
-pub ok_same : {A : Type 0} {a b : A} → ◌≡◌ {A = Result A Fault} (Ok a) (Ok b) → a ≡ b
+pub ok_same : {A : Type 0} {a b : A} → ◌≡◌ {A = Result A Refusal} (Ok a) (Ok b) → a ≡ b
 ok_same same = cc
 
-pub err_same : {A : Type 0} {f g : Fault} → ◌≡◌ {A = Result A Fault} (Err f) (Err g) → f ≡ g
+pub err_same : {A : Type 0} {f g : Refusal} → ◌≡◌ {A = Result A Refusal} (Err f) (Err g) → f ≡ g
 err_same same = cc
 
-pub not_both : {A : Type 0} {a : A} {f : Fault} → ◌≡◌ {A = Result A Fault} (Ok a) (Err f) → ⊥
+pub not_both : {A : Type 0} {a : A} {f : Refusal} → ◌≡◌ {A = Result A Refusal} (Ok a) (Err f) → ⊥
 not_both same = cc
 
 pub yes_no : (b : Bool) → b ≡ true → b ≡ false → ⊥
@@ -32,7 +37,7 @@ yes_no b is not = let h : true ≡ false = sym is ∙ not in cc
 
 -- numbers
 
-misread_one : (word : List ℕ) (f g : Fault) → IsMisread word f → IsMisread word g → f ≡ g
+misread_one : (word : List ℕ) (f g : Refusal) → IsMisread word f → IsMisread word g → f ≡ g
 misread_one word f g h k = elim h [
   | inl p ↦ elim k [ inl q ↦ p.1 ∙ sym q.1 | inr q ↦ absurd (yes_no (is_text word) p.0 q.0) ]
   | inr p ↦ elim k [ inl q ↦ absurd (yes_no (is_text word) q.0 p.0) | inr q ↦ p.1 ∙ sym q.1 ]
@@ -53,9 +58,9 @@ size_number = number_one 0 (2 ^ 64 - 1) (omega arith)
 too_great : (all : Bool) (size : ℕ) → (all ≡ true) ⊎ (size ≤ 8128) → all ≡ false → 8128 < size → ⊥
 too_great all size served not great = elim served [ inl is ↦ yes_no all is not | inr small ↦ omega arith ]
 
-size_mixed : (all : Bool) (word : List ℕ) (size : ℕ) (fault : Fault) → ReadsSize all word (Ok size) → ReadsSize all word (Err fault) → ⊥
-size_mixed all word size fault h k = elim k [
-  | inl q ↦ not_both (size_number word (Ok size) (Err fault) h.0 q)
+size_mixed : (all : Bool) (word : List ℕ) (size : ℕ) (refusal : Refusal) → ReadsSize all word (Ok size) → ReadsSize all word (Err refusal) → ⊥
+size_mixed all word size refusal h k = elim k [
+  | inl q ↦ not_both (size_number word (Ok size) (Err refusal) h.0 q)
   | inr q ↦ let same : size ≡ q.0 = ok_same (size_number word (Ok size) (Ok q.0) h.0 q.1) in too_great all size h.1 q.2 (omega (arith, q.3))
 ]
 
@@ -70,19 +75,13 @@ size_one all word (Err f) (Err g) h k = elim h [
 
 -- threads
 
-less_or : (a b : ℕ) → (a < b) ⊎ (b ≤ a)
-less_or zero zero = inr (omega arith)
-less_or zero (suc b) = inl (omega arith)
-less_or (suc a) zero = inr (omega arith)
-less_or (suc a) (suc b) = elim (less_or a b) [ inl h ↦ inl (omega (arith, h)) | inr h ↦ inr (omega (arith, h)) ]
-
 first_one : (names : List (List ℕ)) (name : List ℕ) (a b : ℕ) → IsFirstAt names name a → IsFirstAt names name b → a ≡ b
-first_one names name a b h k = elim (less_or a b) [
+first_one names name a b h k = elim (cases_lt a b) [
   | inl low ↦ absurd (k.first a low h.there)
-  | inr high ↦ elim (less_or b a) [ inl low ↦ absurd (h.first b low k.there) | inr same ↦ omega arith ]
+  | inr high ↦ elim (cases_lt b a) [ inl low ↦ absurd (h.first b low k.there) | inr same ↦ omega arith ]
 ]
 
-pub thread_one : (before : Before) → OneWay (ReadsThread before)
+pub thread_one : (before : Context) → OneWay (ReadsThread before)
 thread_one before word (Ok a) (Ok b) h k = let e : a ≡ b = first_one before.names word a b h.1 k.1 in cc
 thread_one before word (Ok a) (Err f) h k = elim k [ inl q ↦ absurd (q.1 a h.1.there) | inr q ↦ absurd (q.0 h.0) ]
 thread_one before word (Err f) (Ok a) h k = elim h [ inl q ↦ absurd (q.1 a k.1.there) | inr q ↦ absurd (q.0 k.0) ]
@@ -96,7 +95,7 @@ thread_one before word (Err f) (Err g) h k = elim h [
 pool_same : (p q : ℕ) → pool_text p ≡ pool_text q → p ≡ q
 pool_same p q same = omega (arith, ap (λ (w : List ℕ). get_or w 1 0) same)
 
-pub pool_one : (before : Before) → OneWay (ReadsPool before)
+pub pool_one : (before : Context) → OneWay (ReadsPool before)
 pool_one before word (Ok p) (Ok q) h k = let e : p ≡ q = pool_same p q (sym h.0 ∙ k.0) in cc
 pool_one before word (Ok p) (Err f) h k = elim k [ inl q ↦ absurd (omega (arith, pool_same p q.0 (sym h.0 ∙ q.1), h.2, q.3)) | inr q ↦ absurd (q.0 p h.1 h.0) ]
 pool_one before word (Err f) (Ok p) h k = elim h [ inl q ↦ absurd (omega (arith, pool_same p q.0 (sym k.0 ∙ q.1), k.2, q.3)) | inr q ↦ absurd (q.0 p k.1 k.0) ]
@@ -105,7 +104,7 @@ pool_one before word (Err f) (Err g) h k = elim h [
   | inr p ↦ elim k [ inl q ↦ absurd (p.0 q.0 q.2 q.1) | inr q ↦ let e : f ≡ g = p.1 ∙ sym q.1 in cc ]
 ]
 
-next_mixed : (before : Before) (word : List ℕ) (p : ℕ) (f : Fault) → ReadsNextPool before word (Ok p) → ReadsNextPool before word (Err f) → ⊥
+next_mixed : (before : Context) (word : List ℕ) (p : ℕ) (f : Refusal) → ReadsNextPool before word (Ok p) → ReadsNextPool before word (Err f) → ⊥
 next_mixed before word p f h k = elim k [
   | inl q ↦ omega (arith, h.0, q.0)
   | inr rest ↦ elim rest [
@@ -114,7 +113,7 @@ next_mixed before word p f h k = elim k [
   ]
 ]
 
-pub next_pool_one : (before : Before) → OneWay (ReadsNextPool before)
+pub next_pool_one : (before : Context) → OneWay (ReadsNextPool before)
 next_pool_one before word (Ok p) (Ok q) h k = let e : p ≡ q = h.1 ∙ sym k.1 in cc
 next_pool_one before word (Ok p) (Err f) h k = absurd (next_mixed before word p f h k)
 next_pool_one before word (Err f) (Ok p) h k = absurd (next_mixed before word p f k h)
@@ -131,7 +130,7 @@ next_pool_one before word (Err f) (Err g) h k = elim h [
 bound_same : (one other : BoundName) → one.bytes.items ≡ other.bytes.items → one ≡ other
 bound_same one other same = ap (λ (xs : List ℕ). record { bytes = record { items = xs } }) same
 
-pub new_name_one : (before : Before) → OneWay (ReadsNewName before)
+pub new_name_one : (before : Context) → OneWay (ReadsNewName before)
 new_name_one before word (Ok a) (Ok b) h k = let e : a ≡ b = bound_same a b (sym h.0 ∙ k.0) in cc
 new_name_one before word (Ok a) (Err f) h k = elim k [ inl q ↦ absurd (yes_no (before.bound word) q.1 h.2) | inr q ↦ absurd (q.0 h.1) ]
 new_name_one before word (Err f) (Ok a) h k = elim h [ inl q ↦ absurd (yes_no (before.bound word) q.1 k.2) | inr q ↦ absurd (q.0 k.1) ]
@@ -159,17 +158,18 @@ rest_of other = []
 place_one : (one other : Place) → IsWritable one → IsWritable other → place_text one ≡ place_text other → one ≡ other
 unfolding rest_of
 place_one one other h k same =
-    let rests : decimal one.region ++ 43 ∷ decimal one.offset ≡ decimal other.region ++ 43 ∷ decimal other.offset = ap rest_of same in
+    let spelled = sym (place_text-digit one (omega (arith, h.0))) ∙ same ∙ place_text-digit other (omega (arith, k.0)) in
+    let rests : decimal one.region ++ 43 ∷ decimal one.offset ≡ decimal other.region ++ 43 ∷ decimal other.offset = ap rest_of spelled in
     let parts = one_front 43 (decimal one.region) (decimal one.offset) (decimal other.region) (decimal other.offset) (HasNo-decimal one.region (omega (arith, h.1))) (HasNo-decimal other.region (omega (arith, k.1))) rests in
-    place_same one other (omega (arith, ap (λ (w : List ℕ). get_or w 1 0) same))
+    place_same one other (omega (arith, ap (λ (w : List ℕ). get_or w 1 0) spelled))
     (decimal_injective one.region other.region (omega (arith, h.1)) (omega (arith, k.1)) parts.0) (decimal_injective one.offset other.offset h.2 k.2 parts.1)
 
-what_mixed : (before : Before) (word : List ℕ) (read : What) (f : Fault) → ReadsWhat before word (Ok read) → ReadsWhat before word (Err f) → ⊥
+what_mixed : (before : Context) (word : List ℕ) (read : What) (f : Refusal) → ReadsWhat before word (Ok read) → ReadsWhat before word (Err f) → ⊥
 what_mixed before word what.Null f h k = elim k [ inl q ↦ q.0.1 h | inr q ↦ q.0 h ]
 what_mixed before word (what.Name name) f h k = elim k [ inl q ↦ yes_no (before.bound word) h.2 q.1 | inr q ↦ q.1 h.1 ]
 what_mixed before word (what.Place place) f h k = elim k [ inl q ↦ name_no_place word place q.0 h.0 | inr q ↦ q.2 place h.1 h.0 ]
 
-pub what_one : (before : Before) → OneWay (ReadsWhat before)
+pub what_one : (before : Context) → OneWay (ReadsWhat before)
 what_one before word (Ok what.Null) (Ok what.Null) h k = refl
 what_one before word (Ok what.Null) (Ok (what.Name name)) h k = absurd (k.1.1 h)
 what_one before word (Ok what.Null) (Ok (what.Place place)) h k = absurd (null_no_place word place h k.0)
@@ -201,7 +201,17 @@ call_word_one binding word (Err f) (Ok a) h k = absurd (h.0 a k.1 k.0)
 call_word_one binding word (Err f) (Err g) h k = let e : f ≡ g = h.1 ∙ sym k.1 in cc
 
 pub row_one : OneWay ReadsRow
-row_one word (Ok a) (Ok b) h k = let e : a ≡ b = row_same a b h.1 k.1 (sym h.0 ∙ k.0) in cc
+row_one word (Ok a) (Ok b) h k = let e : a ≡ b = row_name-own a b h.1 k.1 (sym h.0 ∙ k.0) in cc
 row_one word (Ok a) (Err f) h k = absurd (k.0 a h.1 h.0)
 row_one word (Err f) (Ok a) h k = absurd (h.0 a k.1 k.0)
 row_one word (Err f) (Err g) h k = let e : f ≡ g = h.1 ∙ sym k.1 in cc
+
+-- what is printed is read back
+
+pub places_are_read_back : PlacesAreReadBack
+places_are_read_back place (Some other) writable read = let same : place ≡ other = place_one place other writable read.1 read.0 in cc
+places_are_read_back place None writable read = absurd (read place writable refl)
+
+pub rows_are_read_back : RowsAreReadBack
+rows_are_read_back row (Some other) named read = let same : row ≡ other = row_name-own row other named read.1 read.0 in cc
+rows_are_read_back row None named read = absurd (read row named refl)

@@ -2,18 +2,19 @@
 use Rattle.std.proofs.Common.{◌≡◌, ℕ, ◌+◌, inl, inr, List, [], ◌∷◌, ◌++◌, refl, sym, ◌∙◌, ap, subst, arith}
 use Rattle.std.specs.Prelude.{Result, Ok, Err, Some, None}
 use Rattle.std.specs.declared.option.Option.{Option}
-use Rattle.trace_reader.specs.declared.refusal.Fault.{Fault}
+use Rattle.trace_reader.specs.Laws.{TracesAreClear}
+use Rattle.trace_reader.specs.declared.refusal.Refusal.{Refusal}
 use Rattle.trace_reader.specs.declared.acts.Forms.{Forms}
 use Rattle.trace_reader.specs.declared.acts.Act.{Act}
 use Rattle.trace_reader.specs.Words.{words_of}
-use Rattle.trace_reader.specs.Slots.{Before}
+use Rattle.trace_reader.specs.Contexts.{Context}
 use Rattle.trace_reader.specs.Acts.{after_words}
-use Rattle.trace_reader.specs.Text.{Reading, Refused, ReadsLine, ReadsLines, ReadsOne, behind, is_skipped, nothing_yet}
+use Rattle.trace_reader.specs.Text.{Outcome, FirstRefused, ReadsLine, ReadsLines, behind, is_skipped, nothing_yet}
 use Rattle.trace_reader.proofs.OneSlot.{ok_same, err_same, not_both, yes_no}
 use Rattle.trace_reader.proofs.OneLine.{words_one}
 use Rattle.trace_reader.proofs.OneWord.{some_same}
 
-line_one : (forms : Forms) (before : Before) (number : ℕ) (text : List ℕ) (one other : Result (Option Act) Fault) → ReadsLine forms before number text one → ReadsLine forms before number text other → one ≡ other
+line_one : (forms : Forms) (before : Context) (number : ℕ) (text : List ℕ) (one other : Result (Option Act) Refusal) → ReadsLine forms before number text one → ReadsLine forms before number text other → one ≡ other
 line_one forms before number text one other h k = elim h [
   | inl p ↦ elim k [
     | inl q ↦ p.1 ∙ sym q.1
@@ -67,14 +68,14 @@ line_one forms before number text one other h k = elim h [
 none_some : {A : Type 0} {a : A} → ◌≡◌ {A = Option A} None (Some a) → ⊥
 none_some same = cc
 
-lines_one : (forms : Forms) (before : Before) (number : ℕ) (texts : List (List ℕ)) (last : List ℕ) (one other : Reading) → ReadsLines forms before number texts last one → ReadsLines forms before number texts last other → one ≡ other
+lines_one : (forms : Forms) (before : Context) (number : ℕ) (texts : List (List ℕ)) (last : List ℕ) (one other : Outcome) → ReadsLines forms before number texts last one → ReadsLines forms before number texts last other → one ≡ other
 lines_one forms before number [] last one other h k = elim h [
   | inl p ↦ elim k [ inl q ↦ p.1 ∙ sym q.1 | inr q ↦ absurd (q.0 p.0) ]
   | inr p ↦ elim k [ inl q ↦ absurd (p.0 q.0) | inr q ↦ p.1 ∙ sym q.1 ]
 ]
 lines_one forms before number (text ∷ texts) last one other h k = elim h [
   | inl p ↦ elim k [
-    | inl q ↦ let e : p.0 ≡ q.0 = err_same (line_one forms before number text (Err p.0) (Err q.0) p.1 q.1) in p.2 ∙ ap (λ (f : Fault). Refused number f) e ∙ sym q.2
+    | inl q ↦ let e : p.0 ≡ q.0 = err_same (line_one forms before number text (Err p.0) (Err q.0) p.1 q.1) in p.2 ∙ ap (λ (f : Refusal). FirstRefused number f) e ∙ sym q.2
     | inr r ↦ elim r [ inl q ↦ absurd (not_both (line_one forms before number text (Ok None) (Err p.0) q.0 p.1)) | inr q ↦ absurd (not_both (line_one forms before number text (Ok (Some q.0)) (Err p.0) q.2 p.1)) ]
   ]
   | inr s ↦ elim s [
@@ -92,7 +93,7 @@ lines_one forms before number (text ∷ texts) last one other h k = elim h [
         | inr q ↦
             let e : p.0 ≡ q.0 = some_same (ok_same (line_one forms before number text (Ok (Some p.0)) (Ok (Some q.0)) p.2 q.2)) in
             let rest : p.1 ≡ q.1 = lines_one forms (after_words before (words_of text) q.0) (number + 1) texts last p.1 q.1 (subst (λ (a : Act). ReadsLines forms (after_words before (words_of text) a) (number + 1) texts last p.1) e p.3) q.3 in
-            p.4 ∙ ap (λ (a : Act). behind (record { line = number; act = a } ∷ []) p.1) e ∙ ap (λ (r : Reading). behind (record { line = number; act = q.0 } ∷ []) r) rest ∙ sym q.4
+            p.4 ∙ ap (λ (a : Act). behind (record { line = number; act = a } ∷ []) p.1) e ∙ ap (λ (r : Outcome). behind (record { line = number; act = q.0 } ∷ []) r) rest ∙ sym q.4
       ]
     ]
   ]
@@ -117,8 +118,8 @@ last_same (a ∷ xs) (b ∷ ys) x y same =
     let rest = last_same xs ys x y (cons_rest a b (xs ++ x ∷ []) (ys ++ y ∷ []) same) in
     (ap (λ (t : List ℕ). t ∷ xs) (cons_head a b (xs ++ x ∷ []) (ys ++ y ∷ []) same) ∙ ap (λ (ts : List (List ℕ)). b ∷ ts) rest.0, rest.1)
 
-pub reads_one : ReadsOne
-reads_one forms bytes one other h k =
+pub traces_are_clear : TracesAreClear
+traces_are_clear forms bytes one other h k =
     let parts = last_same h.texts k.texts h.last k.last (sym h.parts ∙ k.parts) in
     lines_one forms nothing_yet 1 k.texts k.last one other
     (subst (λ (ts : List (List ℕ)). ReadsLines forms nothing_yet 1 ts k.last one) parts.0 (subst (λ (l : List ℕ). ReadsLines forms nothing_yet 1 h.texts l one) parts.1 h.reads)) k.reads

@@ -1,9 +1,9 @@
--- Options that are all of other kinds.
+-- Options that are all of other places.
 use Rattle.std.proofs.Common.{◌≡◌, ℕ, add-one, drop, drop-cons, get_or, Vec, Global, ◌+◌, ◌<◌, ◌≤◌, ◌⊎◌, inl, inr, Bool, true, false, ◌||◌, List, [], ◌∷◌, ◌++◌, length, map, rules, refl, sym, ◌∙◌, ap, subst, arith}
 use Rattle.std.specs.Prelude.{nat_eq, Result, Ok, Err}
 use Rattle.std.specs.List.{drop-map}
-use Rattle.trace_reader.specs.declared.refusal.Fault.{Fault}
-use Rattle.trace_reader.specs.declared.refusal.Fault.TheVariants.{PoolOrder}
+use Rattle.trace_reader.specs.declared.refusal.Refusal.{Refusal}
+use Rattle.trace_reader.specs.declared.refusal.Refusal.TheVariants.{PoolOrder}
 use Rattle.trace_reader.specs.Words.{items_of}
 use Rattle.std.specs.List.{list_any, IsDistinct}
 use Rattle.std.proofs.lemmas.Cmp.{nat_eq_equiv}
@@ -12,19 +12,12 @@ use Rattle.std.proofs.lemmas.Map.Keys.{IsDistinct-push}
 use Rattle.std.proofs.lemmas.Map.Steps.{length-le_from_distinct_below}
 use Rattle.std.proofs.lemmas.Bool.Decides.{Decides-eqb}
 use Rattle.trace_reader.specs.declared.acts.PoolOption.{PoolOption}
-use Rattle.trace_reader.specs.declared.acts.PoolOption.TheVariants.{Fixed, Keep, NoGet, NoFree, Gran, Region, Span, Version, Reserved}
+use Rattle.trace_reader.specs.declared.acts.PoolOption.TheVariants.{Fixed}
 use Rattle.trace_reader.specs.Options.{option_place, has_option, ReadsOption, ReadsOptions}
 
 option_place-lt : (option : PoolOption) → option_place option < 9
 option_place-lt Fixed = omega arith
-option_place-lt Keep = omega arith
-option_place-lt NoGet = omega arith
-option_place-lt NoFree = omega arith
-option_place-lt (Gran n) = omega arith
-option_place-lt (Region n) = omega arith
-option_place-lt (Span n) = omega arith
-option_place-lt (Version n) = omega arith
-option_place-lt (Reserved n) = omega arith
+option_place-lt option = omega arith
 
 one_of_two : (a b : Bool) → (a || b) ≡ true → (a ≡ true) ⊎ (b ≡ true)
 one_of_two true b is = inl refl
@@ -35,7 +28,7 @@ places_below [] q is = let h : false ≡ true = is in absurd (cc)
 places_below (option ∷ options) q is = elim (one_of_two (nat_eq q (option_place option)) (list_any (nat_eq q) (map option_place options)) is)
     [ inl here ↦ subst (λ (n : ℕ). n < 9) (sym ((Decides-eqb q (option_place option)).0 here)) (option_place-lt option) | inr there ↦ places_below options q there ]
 
--- no two of the options are of one kind
+-- no two of the options have one place
 pub record AreApart (options : List PoolOption) : Type 0 where
   pub apart : IsDistinct nat_eq (map option_place options)
 
@@ -47,14 +40,14 @@ any_place : (place : ℕ) (options : List PoolOption) → list_any (nat_eq place
 any_place place [] = refl
 any_place place (option ∷ options) = ap (λ (b : Bool). nat_eq place (option_place option) || b) (any_place place options)
 
--- one more kind
+-- one more place
 pub AreApart-more : (options : List PoolOption) (option : PoolOption) → AreApart options → has_option options option ≡ false → AreApart (options ++ option ∷ [])
 AreApart-more options option are new = record {
   apart = subst (λ (ps : List ℕ). IsDistinct nat_eq ps) (sym (map-append option_place options (option ∷ [])))
       (IsDistinct-push nat_eq_equiv (map option_place options) (option_place option) are.apart (any_place (option_place option) options ∙ new));
 }
 
--- there are at most nine kinds
+-- there are at most nine places
 pub AreApart-length : (options : List PoolOption) → AreApart options → length options ≤ 9
 AreApart-length options are = omega (arith, length-map options option_place, length-le_from_distinct_below (map option_place options) 9 are.apart (places_below options))
 
@@ -72,15 +65,15 @@ words_from words i word text below is there =
     ∙ ap (λ (ws : List (List ℕ)). text ∷ ws) (sym (drop-map items_of (i + 1) words))
 
 -- one word of a pool line was refused
-pub option_refused : (had : List PoolOption) (words rest : List (List ℕ)) (word : List ℕ) (fault : Fault) → words ≡ word ∷ rest → ReadsOption word (Err fault) → ReadsOptions had words (Err fault)
-option_refused had words rest word fault is reads = subst (λ (ws : List (List ℕ)). ReadsOptions had ws (Err fault)) (sym is) (inl (fault, reads, refl))
+pub option_refused : (had : List PoolOption) (words rest : List (List ℕ)) (word : List ℕ) (refusal : Refusal) → words ≡ word ∷ rest → ReadsOption word (Err refusal) → ReadsOptions had words (Err refusal)
+option_refused had words rest word refusal is reads = subst (λ (ws : List (List ℕ)). ReadsOptions had ws (Err refusal)) (sym is) (inl (refusal, reads, refl))
 
 -- one option of a pool line stands twice
 pub option_twice : (had : List PoolOption) (words rest : List (List ℕ)) (word : List ℕ) (option : PoolOption) → words ≡ word ∷ rest → ReadsOption word (Ok option) → has_option had option ≡ true → ReadsOptions had words (Err PoolOrder)
 option_twice had words rest word option is reads twice = subst (λ (ws : List (List ℕ)). ReadsOptions had ws (Err PoolOrder)) (sym is) (inr (inl (option, reads, twice, refl)))
 
 -- one more option of a pool line
-pub option_more : (had more : List PoolOption) (words rest : List (List ℕ)) (word : List ℕ) (option : PoolOption) (result : Result (List PoolOption) Fault) → words ≡ word ∷ rest → ReadsOption word (Ok option) → has_option had option ≡ false →
+pub option_more : (had more : List PoolOption) (words rest : List (List ℕ)) (word : List ℕ) (option : PoolOption) (result : Result (List PoolOption) Refusal) → words ≡ word ∷ rest → ReadsOption word (Ok option) → has_option had option ≡ false →
     more ≡ had ++ option ∷ [] → ReadsOptions more rest result → ReadsOptions had words result
 option_more had more words rest word option result is reads new pushed reads_rest = subst (λ (ws : List (List ℕ)). ReadsOptions had ws result) (sym is)
     (inr (inr (option, reads, new, subst (λ (os : List PoolOption). ReadsOptions os rest result) pushed reads_rest)))

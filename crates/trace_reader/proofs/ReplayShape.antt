@@ -4,7 +4,8 @@ use Rattle.std.specs.Prelude.{Ok, Some, None, slice_get}
 use Rattle.std.specs.declared.option.Option.{Option}
 use Rattle.arrayvec.specs.ArrayVec.{ArrayVec}
 use Rattle.std.proofs.lemmas.Option.{slice_get_within}
-use Rattle.trace_reader.specs.declared.names.ThreadName.{ThreadName}
+use Rattle.pool_types.specs.declared.texts.ThreadName.{ThreadName}
+use Rattle.trace_reader.specs.Laws.{ReplaysHaveOneShape}
 use Rattle.trace_reader.specs.declared.names.BoundName.{BoundName}
 use Rattle.trace_reader.specs.declared.acts.Forms.TheVariants as forms
 use Rattle.trace_reader.specs.declared.acts.PoolOption.{PoolOption}
@@ -15,12 +16,13 @@ use Rattle.trace_reader.specs.declared.acts.TraceLine.{TraceLine}
 use Rattle.trace_reader.specs.declared.keywords.Keyword.{Keyword}
 use Rattle.trace_reader.specs.declared.keywords.Keyword.TheVariants.{ThreadsWord, PoolWord, RawWord, BeginWord, StepWord, UpToWord, FinishWord, ResetWord, DestroyWord}
 use Rattle.trace_reader.specs.declared.keywords.CallWord.{CallWord}
-use Rattle.trace_reader.specs.Forms.{Then}
-use Rattle.trace_reader.specs.Slots.{Before, ReadsNextPool, ReadsPool, ReadsThread}
+use Rattle.trace_reader.specs.Combinators.{Then}
+use Rattle.trace_reader.specs.Contexts.{Context}
+use Rattle.trace_reader.specs.Slots.{ReadsNextPool, ReadsPool, ReadsThread}
 use Rattle.trace_reader.specs.Acts.{CallLine, Calls, IsPlainPool, KeywordLine, PoolOptions, ReadsCall, ReadsCallWord, ReadsNames, ReadsWords, ThreadsLine, after_words, bound_by, serves_call, serves_keyword, with_bound}
-use Rattle.trace_reader.specs.Contexts.{name_bytes}
+use Rattle.pool_types.specs.Texts.{name_bytes}
 use Rattle.trace_reader.specs.Text.{nothing_yet}
-use Rattle.trace_reader.specs.Served.{AreServed, AreServedCalls, IsServedCall, ServesReplays, act_of, plain_pool}
+use Rattle.trace_reader.specs.Served.{AreServed, AreServedCalls, IsServedCall, act_of, plain_pool}
 use Rattle.trace_reader.proofs.ContextLemmas.{word_read}
 use Rattle.trace_reader.proofs.OneSlot.{ok_same, not_both}
 use Rattle.trace_reader.proofs.ServedLaws.{Follow, lines_follow}
@@ -29,7 +31,7 @@ use Rattle.trace_reader.proofs.CallForms.{IsSmallCall, binding_small, plain_smal
 -- one line that a replay serves
 
 -- the line names the one thread
-record NamesThread (before : Before) (words : List (List ℕ)) (deed : Act) : Type 0 where
+record NamesThread (before : Context) (words : List (List ℕ)) (deed : Act) : Type 0 where
   unnamed : before.names ≡ []
   unmade : before.pools ≡ 0
   name : List ℕ
@@ -37,12 +39,12 @@ record NamesThread (before : Before) (words : List (List ℕ)) (deed : Act) : Ty
   does : deed ≡ act.Threads
 
 -- the line makes the pool
-record MakesPool (before : Before) (deed : Act) : Type 0 where
+record MakesPool (before : Context) (deed : Act) : Type 0 where
   unmade : before.pools ≡ 0
   does : deed ≡ plain_pool
 
 -- the line makes a call that is served
-record MakesCall (before : Before) (deed : Act) : Type 0 where
+record MakesCall (before : Context) (deed : Act) : Type 0 where
   thread : ℕ
   pool : ℕ
   call : TraceCall
@@ -66,7 +68,7 @@ one_name (word ∷ other ∷ words) deed read = elim read [
   ]
 ]
 
-threads_line : (before : Before) (words : List (List ℕ)) (deed : Act) → ThreadsLine false before words (Ok deed) → NamesThread before words deed
+threads_line : (before : Context) (words : List (List ℕ)) (deed : Act) → ThreadsLine false before words (Ok deed) → NamesThread before words deed
 threads_line before words deed read = elim read [
   | inl named ↦ let one = one_name (drop 1 words) deed named.2 in record { unnamed = named.0; unmade = named.1; name = one.0; named = one.1; does = one.2 }
   | inr refused ↦ absurd (not_both refused.1)
@@ -87,7 +89,7 @@ options_line pool words at deed read = elim read [
   ]
 ]
 
-pool_line : (before : Before) (words : List (List ℕ)) (deed : Act) → Then (ReadsNextPool before) (PoolOptions false) words 1 (Ok deed) → MakesPool before deed
+pool_line : (before : Context) (words : List (List ℕ)) (deed : Act) → Then (ReadsNextPool before) (PoolOptions false) words 1 (Ok deed) → MakesPool before deed
 pool_line before words deed read = elim read [
   | inl refused ↦ absurd (not_both refused.2)
   | inr went ↦
@@ -100,7 +102,7 @@ some_ap : {one other : List ℕ} → one ≡ other → ◌≡◌ {A = Option (Li
 some_ap same = cc
 
 -- the call of the words is one that is served
-served_call : (before : Before) (words : List (List ℕ)) (call : TraceCall) → ((word : CallWord) → Calls words word → serves_call forms.Replay word ≡ true) → ReadsCall false before words 2 (Ok call) → IsServedCall call
+served_call : (before : Context) (words : List (List ℕ)) (call : TraceCall) → ((word : CallWord) → Calls words word → serves_call forms.Replay word ≡ true) → ReadsCall false before words 2 (Ok call) → IsServedCall call
 served_call before words call served read = elim read [
   | inl named ↦ elim named.1 [
     | inl refused ↦ absurd (not_both refused.2)
@@ -121,7 +123,7 @@ served_call before words call served read = elim read [
   ]
 ]
 
-call_line : (before : Before) (words : List (List ℕ)) (deed : Act) → ((word : CallWord) → Calls words word → serves_call forms.Replay word ≡ true) → CallLine false before words (Ok deed) → MakesCall before deed
+call_line : (before : Context) (words : List (List ℕ)) (deed : Act) → ((word : CallWord) → Calls words word → serves_call forms.Replay word ≡ true) → CallLine false before words (Ok deed) → MakesCall before deed
 call_line before words deed served read = elim read [
   | inl refused ↦ absurd (not_both refused.2)
   | inr named ↦ elim named.2 [
@@ -145,10 +147,10 @@ call_line before words deed served read = elim read [
 ]
 
 -- what a line that a replay serves does
-ServedLine : Before → List (List ℕ) → Act → Type 0
+ServedLine : Context → List (List ℕ) → Act → Type 0
 ServedLine before words deed = NamesThread before words deed ⊎ MakesPool before deed ⊎ MakesCall before deed
 
-keyword_line : (before : Before) (key : Keyword) (words : List (List ℕ)) (deed : Act) → serves_keyword forms.Replay key ≡ true → KeywordLine false before key words (Ok deed) → ServedLine before words deed
+keyword_line : (before : Context) (key : Keyword) (words : List (List ℕ)) (deed : Act) → serves_keyword forms.Replay key ≡ true → KeywordLine false before key words (Ok deed) → ServedLine before words deed
 unfolding ServedLine
 keyword_line before ThreadsWord words deed served read = inl (threads_line before words deed read)
 keyword_line before PoolWord words deed served read = inr (inl (pool_line before words deed read))
@@ -160,7 +162,7 @@ keyword_line before FinishWord words deed served read = let h : false ≡ true =
 keyword_line before ResetWord words deed served read = let h : false ≡ true = served in absurd (cc)
 keyword_line before DestroyWord words deed served read = let h : false ≡ true = served in absurd (cc)
 
-served_line : (before : Before) (words : List (List ℕ)) (deed : Act) → ReadsWords forms.Replay before words (Ok deed) → ServedLine before words deed
+served_line : (before : Context) (words : List (List ℕ)) (deed : Act) → ReadsWords forms.Replay before words (Ok deed) → ServedLine before words deed
 unfolding ServedLine
 served_line before words deed read = elim read [
   | inl keyed ↦ keyword_line before keyed.0 words deed keyed.2 keyed.3
@@ -175,26 +177,26 @@ served_line before words deed read = elim read [
 
 -- what stands before the next line
 
-bound_names : (before : Before) (name : Option BoundName) → (with_bound before name).names ≡ before.names
+bound_names : (before : Context) (name : Option BoundName) → (with_bound before name).names ≡ before.names
 bound_names before None = refl
 bound_names before (Some name) = refl
 
-bound_pools : (before : Before) (name : Option BoundName) → (with_bound before name).pools ≡ before.pools
+bound_pools : (before : Context) (name : Option BoundName) → (with_bound before name).pools ≡ before.pools
 bound_pools before None = refl
 bound_pools before (Some name) = refl
 
 -- the names of the threads and the number of pools
-record Stands (before : Before) (names : List (List ℕ)) (pools : ℕ) : Type 0 where
+record Stands (before : Context) (names : List (List ℕ)) (pools : ℕ) : Type 0 where
   named : before.names ≡ names
   made : before.pools ≡ pools
 
-after_threads : (before : Before) (words : List (List ℕ)) (deed : Act) → (is : NamesThread before words deed) → Stands (after_words before words deed) (is.name ∷ []) 0
+after_threads : (before : Context) (words : List (List ℕ)) (deed : Act) → (is : NamesThread before words deed) → Stands (after_words before words deed) (is.name ∷ []) 0
 after_threads before words deed is = subst (λ (d : Act). Stands (after_words before words d) (is.name ∷ []) 0) (sym is.does) (record { named = is.named; made = is.unmade })
 
-after_pool : (before : Before) (names : List (List ℕ)) (words : List (List ℕ)) (deed : Act) → before.names ≡ names → MakesPool before deed → Stands (after_words before words deed) names 1
+after_pool : (before : Context) (names : List (List ℕ)) (words : List (List ℕ)) (deed : Act) → before.names ≡ names → MakesPool before deed → Stands (after_words before words deed) names 1
 after_pool before names words deed named is = subst (λ (d : Act). Stands (after_words before words d) names 1) (sym is.does) (record { named = named; made = ap (λ (n : ℕ). n + 1) is.unmade })
 
-after_call : (before : Before) (names : List (List ℕ)) (pools : ℕ) (words : List (List ℕ)) (deed : Act) → Stands before names pools → MakesCall before deed → Stands (after_words before words deed) names pools
+after_call : (before : Context) (names : List (List ℕ)) (pools : ℕ) (words : List (List ℕ)) (deed : Act) → Stands before names pools → MakesCall before deed → Stands (after_words before words deed) names pools
 after_call before names pools words deed stands is =
     subst (λ (d : Act). Stands (after_words before words d) names pools) (sym is.does) (record { named = bound_names before (bound_by is.call) ∙ stands.named; made = bound_pools before (bound_by is.call) ∙ stands.made })
 
@@ -202,19 +204,19 @@ after_call before names pools words deed stands is =
 nil_cons : {A : Type 0} {x : A} {xs : List A} → ◌≡◌ {A = List A} [] (x ∷ xs) → ⊥
 nil_cons same = cc
 
-no_thread : (before : Before) (pools : ℕ) (deed : Act) → Stands before [] pools → MakesCall before deed → ⊥
+no_thread : (before : Context) (pools : ℕ) (deed : Act) → Stands before [] pools → MakesCall before deed → ⊥
 no_thread before pools deed stands is = absurd (omega (arith, is.known, ap length stands.named))
 
-no_pool : (before : Before) (names : List (List ℕ)) (deed : Act) → Stands before names 0 → MakesCall before deed → ⊥
+no_pool : (before : Context) (names : List (List ℕ)) (deed : Act) → Stands before names 0 → MakesCall before deed → ⊥
 no_pool before names deed stands is = absurd (omega (arith, is.made, stands.made))
 
-one_pool : (before : Before) (names : List (List ℕ)) (deed : Act) → Stands before names 1 → MakesPool before deed → ⊥
+one_pool : (before : Context) (names : List (List ℕ)) (deed : Act) → Stands before names 1 → MakesPool before deed → ⊥
 one_pool before names deed stands is = absurd (omega (arith, is.unmade, stands.made))
 
-named_before : (before : Before) (name : List ℕ) (pools : ℕ) (words : List (List ℕ)) (deed : Act) → Stands before (name ∷ []) pools → NamesThread before words deed → ⊥
+named_before : (before : Context) (name : List ℕ) (pools : ℕ) (words : List (List ℕ)) (deed : Act) → Stands before (name ∷ []) pools → NamesThread before words deed → ⊥
 named_before before name pools words deed stands is = nil_cons (sym is.unnamed ∙ stands.named)
 
-made_before : (before : Before) (names words : List (List ℕ)) (deed : Act) → Stands before names 1 → NamesThread before words deed → ⊥
+made_before : (before : Context) (names words : List (List ℕ)) (deed : Act) → Stands before names 1 → NamesThread before words deed → ⊥
 made_before before names words deed stands is = absurd (omega (arith, is.unmade, stands.made))
 
 -- the lines that follow, by what stands before
@@ -224,7 +226,7 @@ record AreCalls (name : List ℕ) (lines : List TraceLine) (names : List (List �
   named : names ≡ name ∷ []
   calls : AreServedCalls (map act_of lines)
 
-calls_follow : (before : Before) (least : ℕ) (name : List ℕ) (lines : List TraceLine) (names : List (List ℕ)) → Stands before (name ∷ []) 1 → Follow forms.Replay before least lines names → AreCalls name lines names
+calls_follow : (before : Context) (least : ℕ) (name : List ℕ) (lines : List TraceLine) (names : List (List ℕ)) → Stands before (name ∷ []) 1 → Follow forms.Replay before least lines names → AreCalls name lines names
 unfolding Follow ServedLine
 calls_follow before least name [] names stands follow = record { named = follow ∙ stands.named; calls = tt }
 calls_follow before least name (line ∷ lines) names stands follow = elim (served_line before follow.0 line.act follow.1.read) [
@@ -242,7 +244,7 @@ calls_follow before least name (line ∷ lines) names stands follow = elim (serv
 ]
 
 -- no line follows the pool's line where no thread is named
-none_follow : (before : Before) (least : ℕ) (lines : List TraceLine) (names : List (List ℕ)) → Stands before [] 1 → Follow forms.Replay before least lines names → (names ≡ []) × (lines ≡ [])
+none_follow : (before : Context) (least : ℕ) (lines : List TraceLine) (names : List (List ℕ)) → Stands before [] 1 → Follow forms.Replay before least lines names → (names ≡ []) × (lines ≡ [])
 unfolding Follow ServedLine
 none_follow before least [] names stands follow = (follow ∙ stands.named, refl)
 none_follow before least (line ∷ lines) names stands follow = elim (served_line before follow.0 line.act follow.1.read) [
@@ -255,7 +257,7 @@ record AreNamed (name : List ℕ) (lines : List TraceLine) (names : List (List �
   named : names ≡ name ∷ []
   acts : (map act_of lines ≡ []) ⊎ ((calls : List Act) × (map act_of lines ≡ plain_pool ∷ calls) × AreServedCalls calls)
 
-named_follow : (before : Before) (least : ℕ) (name : List ℕ) (lines : List TraceLine) (names : List (List ℕ)) → Stands before (name ∷ []) 0 → Follow forms.Replay before least lines names → AreNamed name lines names
+named_follow : (before : Context) (least : ℕ) (name : List ℕ) (lines : List TraceLine) (names : List (List ℕ)) → Stands before (name ∷ []) 0 → Follow forms.Replay before least lines names → AreNamed name lines names
 unfolding Follow ServedLine
 named_follow before least name [] names stands follow = record { named = follow ∙ stands.named; acts = inl refl }
 named_follow before least name (line ∷ lines) names stands follow = elim (served_line before follow.0 line.act follow.1.read) [
@@ -300,5 +302,5 @@ all_follow (line ∷ lines) threads least follow = elim (served_line nothing_yet
   ]
 ]
 
-pub serves_replays : ServesReplays
-serves_replays bytes trace read = all_follow trace.lines.items trace.names.items 1 (lines_follow forms.Replay nothing_yet 1 read.texts read.last trace.lines.items (map name_bytes trace.names.items) read.reads)
+pub replays_have_one_shape : ReplaysHaveOneShape
+replays_have_one_shape bytes trace read = all_follow trace.lines.items trace.names.items 1 (lines_follow forms.Replay nothing_yet 1 read.texts read.last trace.lines.items (map name_bytes trace.names.items) read.reads)

@@ -1,13 +1,15 @@
 -- Words in their places.
-use Rattle.std.proofs.Common.{◌≡◌, ◌≢◌, ℕ, suc, add-one, ◌+◌, ◌<◌, ◌^◌, List, [], ◌∷◌, ◌++◌, length, get_or, take, drop, drop-cons, map, refl, rules, sym, ◌∙◌, ap, arith}
-use Rattle.std.specs.Prelude.{slice_get, option_map, Some}
+use Rattle.std.proofs.Common.{◌≡◌, ◌≢◌, ℕ, suc, add-one, ◌+◌, ◌-◌, ◌<◌, ◌^◌, List, [], ◌∷◌, ◌++◌, length, get_or, take, drop, drop-cons, map, refl, rules, sym, ◌∙◌, ap, arith}
+use Rattle.std.specs.Prelude.{slice_get, option_map, Some, None}
 use Rattle.std.specs.Fmt.{decimal}
-use Rattle.std.proofs.lemmas.List.{take-append-drop, length-take-le, get_or-take}
+use Rattle.std.proofs.lemmas.List.{take_all, take-append-drop, length-take-le, get_or-take}
 use Rattle.std.proofs.lemmas.Option.{slice_get-map, slice_get-get_or}
 use Rattle.std.proofs.lemmas.Str.Parse.{not_in_digits}
-use Rattle.std.proofs.lemmas.Fmt.{digits_decimal}
+use Rattle.std.proofs.lemmas.Fmt.{decimal_digit, digits_decimal}
+use Rattle.pool_types.specs.declared.values.Place.{Place}
+use Rattle.pool_types.specs.Texts.{place_text}
 use Rattle.trace_reader.proofs.NumberLemmas.{own}
-use Rattle.trace_reader.specs.Slots.{HasNo, pair_text}
+use Rattle.trace_reader.specs.Slots.{HasNo, IsPairOf, IsPlaceOf, IsWritable, pair_text}
 
 -- what stands at a place of a list's image
 pub slice_map_at : {A B : Type 0} (f : A → B) (xs : List A) (i : ℕ) (d : A) → i < length xs → slice_get (map f xs) i ≡ Some (f (get_or xs i d))
@@ -59,3 +61,21 @@ not_at {A} f items shown i other name whole below is differs found =
     let there : slice_get (map f shown) i ≡ Some name = ap (λ (ns : List A). slice_get (map f ns) i) whole ∙ found in
     let same : f (get_or shown i other) ≡ name = cc in
     differs (ap f is ∙ same)
+
+-- the pool of a place is one digit
+pub place_text-digit : (place : Place) → place.pool < 10 → place_text place ≡ 80 ∷ (48 + place.pool) ∷ 46 ∷ 82 ∷ pair_text place.region place.offset
+place_text-digit place small = ap (λ (digits : List ℕ). 80 ∷ (digits ++ 46 ∷ 82 ∷ pair_text place.region place.offset)) (decimal_digit place.pool small)
+
+-- a text that is no place with its pool as a digit is no place
+pub not_written : (word : List ℕ) → ((place : Place) → IsWritable place → word ≢ 80 ∷ (48 + place.pool) ∷ 46 ∷ 82 ∷ pair_text place.region place.offset) → IsPlaceOf word None
+not_written word none = λ place writable is. none place writable (is ∙ place_text-digit place (omega (arith, writable.0)))
+
+-- and one that is such a place is that place
+pub is_written : (word : List ℕ) (place : Place) → word ≡ 80 ∷ (48 + place.pool) ∷ 46 ∷ 82 ∷ pair_text place.region place.offset → IsWritable place → IsPlaceOf word (Some place)
+is_written word place is writable = (is ∙ sym (place_text-digit place (omega (arith, writable.0))), writable)
+
+-- a text whose rest behind four bytes is no pair of numbers is no place
+pub no_pair : (word : List ℕ) → IsPairOf (take (length word - 4) (drop 4 word)) None → (place : Place) → IsWritable place → word ≢ 80 ∷ (48 + place.pool) ∷ 46 ∷ 82 ∷ pair_text place.region place.offset
+no_pair word none place writable is =
+    let text = pair_text place.region place.offset in
+    none place.region place.offset writable.1 writable.2 (ap (λ (w : List ℕ). take (length w - 4) (drop 4 w)) is ∙ take_all (length (80 ∷ (48 + place.pool) ∷ 46 ∷ 82 ∷ text) - 4) text (omega arith))

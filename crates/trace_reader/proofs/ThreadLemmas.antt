@@ -3,7 +3,8 @@ use Rattle.std.proofs.Common.{◌≡◌, ℕ, zero, suc, ◌+◌, ◌<◌, ◌�
 use Rattle.std.specs.Prelude.{Result, Ok, Err, slice_get, Some, None}
 use Rattle.std.specs.declared.option.Option.{Option}
 use Rattle.std.proofs.lemmas.List.{take_more, map-append, length-append}
-use Rattle.trace_reader.specs.declared.refusal.Fault.{Fault}
+use Rattle.pool_types.specs.Limits.{most_threads}
+use Rattle.trace_reader.specs.declared.refusal.Refusal.{Refusal}
 use Rattle.trace_reader.specs.declared.acts.Act.{Act}
 use Rattle.trace_reader.specs.declared.acts.Act.TheVariants as act
 use Rattle.trace_reader.specs.Words.{items_of}
@@ -18,11 +19,11 @@ words_to words i word text below is there =
     ∙ ap (λ (w : List ℕ). map items_of (take i words) ++ w ∷ []) (ap items_of (sym there) ∙ sym is)
 
 -- one name of a line was refused
-pub name_refused : (more : Bool) (had words rest : List (List ℕ)) (word : List ℕ) (fault : Fault) → words ≡ word ∷ rest → ReadsName more had word (Err fault) → ReadsNames more had words (Err fault)
-name_refused more had words rest word fault is reads = subst (λ (ws : List (List ℕ)). ReadsNames more had ws (Err fault)) (sym is) (inl (fault, reads, refl))
+pub name_refused : (more : Bool) (had words rest : List (List ℕ)) (word : List ℕ) (refusal : Refusal) → words ≡ word ∷ rest → ReadsName more had word (Err refusal) → ReadsNames more had words (Err refusal)
+name_refused more had words rest word refusal is reads = subst (λ (ws : List (List ℕ)). ReadsNames more had ws (Err refusal)) (sym is) (inl (refusal, reads, refl))
 
 -- one more name of a line
-pub name_more : (more : Bool) (had next words rest : List (List ℕ)) (word : List ℕ) (result : Result Act Fault) → words ≡ word ∷ rest → ReadsName more had word (Ok word) → next ≡ had ++ word ∷ [] →
+pub name_more : (more : Bool) (had next words rest : List (List ℕ)) (word : List ℕ) (result : Result Act Refusal) → words ≡ word ∷ rest → ReadsName more had word (Ok word) → next ≡ had ++ word ∷ [] →
     ReadsNames more next rest result → ReadsNames more had words result
 name_more more had next words rest word result is reads whole reads_rest = subst (λ (ws : List (List ℕ)). ReadsNames more had ws result) (sym is)
     (inr (word, reads, subst (λ (ns : List (List ℕ)). ReadsNames more ns rest result) whole reads_rest))
@@ -31,18 +32,18 @@ name_more more had next words rest word result is reads whole reads_rest = subst
 each_name : (more : Bool) (had words : List (List ℕ)) → ReadsNames more had words (Ok act.Threads) → (k : ℕ) (word : List ℕ) → slice_get words k ≡ Some word → IsThreadName word
 each_name more had [] reads k word is = let h : ◌≡◌ {A = Option (List ℕ)} None (Some word) = is in absurd (cc)
 each_name more had (first ∷ words) reads zero word is = elim reads [
-  | inl refused ↦ let h : ◌≡◌ {A = Result Act Fault} (Ok act.Threads) (Err refused.0) = refused.2 in absurd (cc)
+  | inl refused ↦ let h : ◌≡◌ {A = Result Act Refusal} (Ok act.Threads) (Err refused.0) = refused.2 in absurd (cc)
   | inr read ↦ let j : ◌≡◌ {A = Option (List ℕ)} (Some first) (Some word) = is in let h : first ≡ word = cc in subst IsThreadName h read.1.3
 ]
 each_name more had (first ∷ words) reads (suc k) word is = elim reads [
-  | inl refused ↦ let h : ◌≡◌ {A = Result Act Fault} (Ok act.Threads) (Err refused.0) = refused.2 in absurd (cc)
+  | inl refused ↦ let h : ◌≡◌ {A = Result Act Refusal} (Ok act.Threads) (Err refused.0) = refused.2 in absurd (cc)
   | inr read ↦ each_name more (had ++ first ∷ []) words read.2 k word is
 ]
 
-few_names : (more : Bool) (had words : List (List ℕ)) → length had ≤ 64 → ReadsNames more had words (Ok act.Threads) → length had + length words ≤ 64
+few_names : (more : Bool) (had words : List (List ℕ)) → length had ≤ most_threads → ReadsNames more had words (Ok act.Threads) → length had + length words ≤ most_threads
 few_names more had [] few reads = omega arith
 few_names more had (first ∷ words) few reads = elim reads [
-  | inl refused ↦ let h : ◌≡◌ {A = Result Act Fault} (Ok act.Threads) (Err refused.0) = refused.2 in absurd (cc)
+  | inl refused ↦ let h : ◌≡◌ {A = Result Act Refusal} (Ok act.Threads) (Err refused.0) = refused.2 in absurd (cc)
   | inr read ↦ omega (arith, read.1.2, length-append had (first ∷ []), few_names more (had ++ first ∷ []) words (omega (arith, read.1.2, length-append had (first ∷ []))) read.2)
 ]
 

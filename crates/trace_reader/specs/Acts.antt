@@ -4,8 +4,9 @@ use Rattle.std.specs.declared.option.Option.{Option}
 use Rattle.std.specs.Str.{bytes_eq}
 use Rattle.arrayvec.specs.ArrayVec.{ArrayVec}
 use Rattle.pool_types.specs.declared.rows.Row.{Row}
-use Rattle.trace_reader.specs.declared.refusal.Fault.{Fault}
-use Rattle.trace_reader.specs.declared.refusal.Fault.TheVariants.{Spelling, ThreadsAgain, TooMany, NotServed}
+use Rattle.pool_types.specs.Limits.{most_pools, most_threads, most_turns}
+use Rattle.trace_reader.specs.declared.refusal.Refusal.{Refusal}
+use Rattle.trace_reader.specs.declared.refusal.Refusal.TheVariants.{Spelling, ThreadsAgain, TooMany, NotServed}
 use Rattle.trace_reader.specs.declared.names.BoundName.{BoundName}
 use Rattle.trace_reader.specs.declared.keywords.Keyword.{Keyword}
 use Rattle.trace_reader.specs.declared.keywords.Keyword.TheVariants.{ThreadsWord, PoolWord, RawWord, BeginWord, StepWord, UpToWord, FinishWord, ResetWord, DestroyWord}
@@ -22,10 +23,10 @@ use Rattle.trace_reader.specs.declared.acts.TraceCall.TheVariants as call
 use Rattle.trace_reader.specs.declared.acts.Act.{Act}
 use Rattle.trace_reader.specs.declared.acts.Act.TheVariants as act
 use Rattle.trace_reader.specs.Names.{IsThreadName}
-use Rattle.trace_reader.specs.Keywords.{keyword_text, call_text, script_text}
-use Rattle.trace_reader.specs.Rows.{IsRowOf}
-use Rattle.trace_reader.specs.Forms.{Then, Ends, Wraps}
-use Rattle.trace_reader.specs.Slots.{Before, ReadsNumber, ReadsSize, ReadsThread, ReadsPool, ReadsNextPool, ReadsNewName, ReadsWhat}
+use Rattle.trace_reader.specs.Keywords.{IsRowOf, keyword_text, call_text, script_text}
+use Rattle.trace_reader.specs.Combinators.{Then, Ends, Wraps}
+use Rattle.trace_reader.specs.Contexts.{Context}
+use Rattle.trace_reader.specs.Slots.{ReadsNumber, ReadsSize, ReadsThread, ReadsPool, ReadsNextPool, ReadsNewName, ReadsWhat}
 use Rattle.trace_reader.specs.Options.{ReadsOptions}
 
 -- the lines whose first word is this are served
@@ -74,51 +75,51 @@ abbrev pub IsPlainPool : ℕ → List PoolOption → Type 0
 IsPlainPool pool options = (pool ≡ 0) × (options ≡ option.Fixed ∷ [])
 
 -- one more name of a thread, after those of the line that were read, or what is wrong with it
-abbrev pub ReadsName : Bool → List (List ℕ) → List ℕ → Result (List ℕ) Fault → Type 0
-ReadsName more had word (Ok name) = (name ≡ word) × ((had ≡ []) ⊎ (more ≡ true)) × (length had < 64) × IsThreadName word × ((k : ℕ) → slice_get had k ≢ Some word)
-ReadsName more had word (Err fault) = ((had ≢ []) × (more ≡ false) × (fault ≡ NotServed))
-    ⊎ (((had ≡ []) ⊎ (more ≡ true)) × (64 ≤ length had) × (fault ≡ TooMany))
-    ⊎ (((had ≡ []) ⊎ (more ≡ true)) × (length had < 64) × (IsThreadName word → ⊥) × (fault ≡ Spelling))
-    ⊎ (((had ≡ []) ⊎ (more ≡ true)) × (length had < 64) × IsThreadName word × (k : ℕ) × (slice_get had k ≡ Some word) × (fault ≡ ThreadsAgain))
+abbrev pub ReadsName : Bool → List (List ℕ) → List ℕ → Result (List ℕ) Refusal → Type 0
+ReadsName more had word (Ok name) = (name ≡ word) × ((had ≡ []) ⊎ (more ≡ true)) × (length had < most_threads) × IsThreadName word × ((k : ℕ) → slice_get had k ≢ Some word)
+ReadsName more had word (Err refusal) = ((had ≢ []) × (more ≡ false) × (refusal ≡ NotServed))
+    ⊎ (((had ≡ []) ⊎ (more ≡ true)) × (most_threads ≤ length had) × (refusal ≡ TooMany))
+    ⊎ (((had ≡ []) ⊎ (more ≡ true)) × (length had < most_threads) × (IsThreadName word → ⊥) × (refusal ≡ Spelling))
+    ⊎ (((had ≡ []) ⊎ (more ≡ true)) × (length had < most_threads) × IsThreadName word × (k : ℕ) × (slice_get had k ≡ Some word) × (refusal ≡ ThreadsAgain))
 
 -- the word may stand as a name there, or what is wrong with it
-abbrev pub IsNameJudged : Bool → List (List ℕ) → List ℕ → Result (Unit {0}) Fault → Type 0
+abbrev pub IsNameJudged : Bool → List (List ℕ) → List ℕ → Result (Unit {0}) Refusal → Type 0
 IsNameJudged more had word (Ok _) = ReadsName more had word (Ok word)
-IsNameJudged more had word (Err fault) = ReadsName more had word (Err fault)
+IsNameJudged more had word (Err refusal) = ReadsName more had word (Err refusal)
 
 -- the words are names of threads, and no more than there may be
 pub record AreThreadNames (words : List (List ℕ)) : Type 0 where
   pub names : (k : ℕ) (word : List ℕ) → slice_get words k ≡ Some word → IsThreadName word
-  pub few : length words ≤ 64
+  pub few : length words ≤ most_threads
 
 -- the names of the words, after those that were read
-abbrev pub ReadsNames : Bool → List (List ℕ) → List (List ℕ) → Result Act Fault → Type 0
+abbrev pub ReadsNames : Bool → List (List ℕ) → List (List ℕ) → Result Act Refusal → Type 0
 ReadsNames more had [] result = ((had ≡ []) × (result ≡ Err Spelling)) ⊎ ((had ≢ []) × (result ≡ Ok act.Threads))
-ReadsNames more had (word ∷ words) result = ((fault : Fault) × ReadsName more had word (Err fault) × (result ≡ Err fault))
+ReadsNames more had (word ∷ words) result = ((refusal : Refusal) × ReadsName more had word (Err refusal) × (result ≡ Err refusal))
     ⊎ ((name : List ℕ) × ReadsName more had word (Ok name) × ReadsNames more (had ++ word ∷ []) words result)
 
 -- a line that names the threads: it stands before any pool line, once
-abbrev pub ThreadsLine : Bool → Before → List (List ℕ) → Result Act Fault → Type 0
+abbrev pub ThreadsLine : Bool → Context → List (List ℕ) → Result Act Refusal → Type 0
 ThreadsLine more before words result = ((before.names ≡ []) × (before.pools ≡ 0) × ReadsNames more [] (drop 1 words) result)
     ⊎ (((before.names ≢ []) ⊎ (0 < before.pools)) × (result ≡ Err ThreadsAgain))
 
 -- the options of a pool line
-abbrev pub PoolOptions : Bool → ℕ → List (List ℕ) → ℕ → Result Act Fault → Type 0
-PoolOptions more pool words at result = ((fault : Fault) × ReadsOptions [] (drop at words) (Err fault) × (result ≡ Err fault))
+abbrev pub PoolOptions : Bool → ℕ → List (List ℕ) → ℕ → Result Act Refusal → Type 0
+PoolOptions more pool words at result = ((refusal : Refusal) × ReadsOptions [] (drop at words) (Err refusal) × (result ≡ Err refusal))
     ⊎ ((options : ArrayVec PoolOption) × ReadsOptions [] (drop at words) (Ok options.items) × ((more ≡ true) ⊎ IsPlainPool pool options.items) × (result ≡ Ok (act.Pool pool options)))
     ⊎ ((options : ArrayVec PoolOption) × ReadsOptions [] (drop at words) (Ok options.items) × (more ≡ false) × (IsPlainPool pool options.items → ⊥) × (result ≡ Err NotServed))
 
 -- any number
-abbrev pub AnyNumber : List ℕ → Result ℕ Fault → Type 0
+abbrev pub AnyNumber : List ℕ → Result ℕ Refusal → Type 0
 AnyNumber = ReadsNumber 0 18446744073709551615
 
 -- the word of a script's entry
-abbrev pub ReadsScriptWord : List ℕ → Result ScriptWord Fault → Type 0
+abbrev pub ReadsScriptWord : List ℕ → Result ScriptWord Refusal → Type 0
 ReadsScriptWord word (Ok script) = word ≡ script_text script
-ReadsScriptWord word (Err fault) = ((script : ScriptWord) → word ≢ script_text script) × (fault ≡ Spelling)
+ReadsScriptWord word (Err refusal) = ((script : ScriptWord) → word ≢ script_text script) × (refusal ≡ Spelling)
 
 -- an entry of a pool's scripts
-abbrev pub RawEntry : ℕ → ScriptWord → List (List ℕ) → ℕ → Result Act Fault → Type 0
+abbrev pub RawEntry : ℕ → ScriptWord → List (List ℕ) → ℕ → Result Act Refusal → Type 0
 RawEntry pool GetWord = Then AnyNumber (λ base. Then AnyNumber (λ bytes. Ends (act.RawGet pool base bytes)))
 RawEntry pool GetFailWord = Ends (act.RawGetFail pool)
 RawEntry pool PutOkWord = Ends (act.RawPutOk pool)
@@ -136,12 +137,12 @@ binds IdentifyWord = false
 binds ExitWord = false
 
 -- the word of a call that binds a name, or of one that binds none
-abbrev pub ReadsCallWord : Bool → List ℕ → Result CallWord Fault → Type 0
+abbrev pub ReadsCallWord : Bool → List ℕ → Result CallWord Refusal → Type 0
 ReadsCallWord binding word (Ok call) = (word ≡ call_text call) × (binds call ≡ binding)
-ReadsCallWord binding word (Err fault) = ((call : CallWord) → binds call ≡ binding → word ≢ call_text call) × (fault ≡ Spelling)
+ReadsCallWord binding word (Err refusal) = ((call : CallWord) → binds call ≡ binding → word ≢ call_text call) × (refusal ≡ Spelling)
 
 -- what follows the word of a call that binds a name
-abbrev pub BindingCall : Bool → Before → BoundName → CallWord → List (List ℕ) → ℕ → Result TraceCall Fault → Type 0
+abbrev pub BindingCall : Bool → Context → BoundName → CallWord → List (List ℕ) → ℕ → Result TraceCall Refusal → Type 0
 BindingCall more before name MallocWord = Then (ReadsSize more) (λ size. Ends (call.Malloc name size))
 BindingCall more before name AlignedWord = Then AnyNumber (λ size. Then AnyNumber (λ alignment. Ends (call.Aligned name size alignment)))
 BindingCall more before name ReallocWord = Then (ReadsWhat before) (λ what. Then AnyNumber (λ size. Ends (call.Realloc name what size)))
@@ -149,7 +150,7 @@ BindingCall more before name AlignedReallocWord = Then (ReadsWhat before) (λ wh
 BindingCall more before name other = λ words at result. ⊥
 
 -- what follows the word of a call that binds none
-abbrev pub PlainCall : Before → CallWord → List (List ℕ) → ℕ → Result TraceCall Fault → Type 0
+abbrev pub PlainCall : Context → CallWord → List (List ℕ) → ℕ → Result TraceCall Refusal → Type 0
 PlainCall before FreeWord = Then (ReadsWhat before) (λ what. Ends (call.Free what))
 PlainCall before MsizeWord = Then (ReadsWhat before) (λ what. Ends (call.Msize what))
 PlainCall before IdentifyWord = Then (ReadsWhat before) (λ what. Ends (call.Identify what))
@@ -157,33 +158,33 @@ PlainCall before ExitWord = Ends call.Exit
 PlainCall before other = λ words at result. ⊥
 
 -- a call that binds a name: the name, `=`, the call's word and what it asks for
-abbrev pub NamedCall : Bool → Before → List (List ℕ) → ℕ → Result TraceCall Fault → Type 0
+abbrev pub NamedCall : Bool → Context → List (List ℕ) → ℕ → Result TraceCall Refusal → Type 0
 NamedCall more before = Then (ReadsNewName before) (λ name words at. Then (ReadsCallWord true) (BindingCall more before name) words (at + 1))
 
 -- a call: it binds a name where its second word is `=`
-abbrev pub ReadsCall : Bool → Before → List (List ℕ) → ℕ → Result TraceCall Fault → Type 0
+abbrev pub ReadsCall : Bool → Context → List (List ℕ) → ℕ → Result TraceCall Refusal → Type 0
 ReadsCall more before words at result = ((slice_get words (at + 1) ≡ Some (codes "=")) × NamedCall more before words at result)
     ⊎ ((slice_get words (at + 1) ≢ Some (codes "=")) × Then (ReadsCallWord false) (PlainCall before) words at result)
 
 -- a row's name
-abbrev pub ReadsRow : List ℕ → Result Row Fault → Type 0
+abbrev pub ReadsRow : List ℕ → Result Row Refusal → Type 0
 ReadsRow word (Ok row) = IsRowOf word (Some row)
-ReadsRow word (Err fault) = IsRowOf word None × (fault ≡ Spelling)
+ReadsRow word (Err refusal) = IsRowOf word None × (refusal ≡ Spelling)
 
 -- what follows the first word, where that is a keyword
-abbrev pub KeywordLine : Bool → Before → Keyword → List (List ℕ) → Result Act Fault → Type 0
+abbrev pub KeywordLine : Bool → Context → Keyword → List (List ℕ) → Result Act Refusal → Type 0
 KeywordLine more before ThreadsWord words = ThreadsLine more before words
 KeywordLine more before PoolWord words = Then (ReadsNextPool before) (PoolOptions more) words 1
 KeywordLine more before RawWord words = Then (ReadsPool before) (λ pool. Then ReadsScriptWord (RawEntry pool)) words 1
 KeywordLine more before BeginWord words = Then (ReadsThread before) (λ thread. Then (ReadsPool before) (λ pool. Wraps (act.Begin thread pool) (ReadsCall more before))) words 1
-KeywordLine more before StepWord words = Then (ReadsThread before) (λ thread. Then (ReadsPool before) (λ pool. Then (ReadsNumber 1 1000000) (λ turns. Ends (act.Step thread pool turns)))) words 1
+KeywordLine more before StepWord words = Then (ReadsThread before) (λ thread. Then (ReadsPool before) (λ pool. Then (ReadsNumber 1 most_turns) (λ turns. Ends (act.Step thread pool turns)))) words 1
 KeywordLine more before UpToWord words = Then (ReadsThread before) (λ thread. Then (ReadsPool before) (λ pool. Then ReadsRow (λ row. Ends (act.UpTo thread pool row)))) words 1
 KeywordLine more before FinishWord words = Then (ReadsThread before) (λ thread. Then (ReadsPool before) (λ pool. Ends (act.Finish thread pool))) words 1
 KeywordLine more before ResetWord words = Then (ReadsPool before) (λ pool. Ends (act.Reset pool)) words 1
 KeywordLine more before DestroyWord words = Then (ReadsPool before) (λ pool. Ends (act.Destroy pool)) words 1
 
 -- a line that begins with a thread and makes a whole call
-abbrev pub CallLine : Bool → Before → List (List ℕ) → Result Act Fault → Type 0
+abbrev pub CallLine : Bool → Context → List (List ℕ) → Result Act Refusal → Type 0
 CallLine more before words = Then (ReadsThread before) (λ thread. Then (ReadsPool before) (λ pool. Wraps (act.Call thread pool) (ReadsCall more before))) words 0
 
 -- the word in the call's place of a line names this call: the fifth word where the fourth is `=`, else the third
@@ -192,7 +193,7 @@ Calls words call = ((slice_get words 3 ≡ Some (codes "=")) × (slice_get words
     ⊎ ((slice_get words 3 ≢ Some (codes "=")) × (slice_get words 2 ≡ Some (call_text call)))
 
 -- what the words of a line are read as
-abbrev pub ReadsWords : Forms → Before → List (List ℕ) → Result Act Fault → Type 0
+abbrev pub ReadsWords : Forms → Context → List (List ℕ) → Result Act Refusal → Type 0
 ReadsWords forms before words result =
     ((key : Keyword) × (slice_get words 0 ≡ Some (keyword_text key)) × (serves_keyword forms key ≡ true) × KeywordLine (serves_more forms) before key words result)
     ⊎ ((key : Keyword) × (slice_get words 0 ≡ Some (keyword_text key)) × (serves_keyword forms key ≡ false) × (result ≡ Err NotServed))
@@ -211,12 +212,12 @@ bound_by (call.Identify what) = None
 bound_by call.Exit = None
 
 -- and the name is bound
-abbrev pub with_bound : Before → Option BoundName → Before
+abbrev pub with_bound : Context → Option BoundName → Context
 with_bound before None = before
 with_bound before (Some name) = record before { bound = λ word. if bytes_eq name.bytes.items word then true else before.bound word }
 
 -- what stands before the next line, after a line of these words that does this
-abbrev pub after_words : Before → List (List ℕ) → Act → Before
+abbrev pub after_words : Context → List (List ℕ) → Act → Context
 after_words before words act.Threads = record before { names = drop 1 words }
 after_words before words (act.Pool pool options) = record before { pools = before.pools + 1 }
 after_words before words (act.Call thread pool call) = with_bound before (bound_by call)
@@ -232,9 +233,9 @@ after_words before words (act.Reset pool) = before
 after_words before words (act.Destroy pool) = before
 
 -- what is known of a line that was read and does this
-abbrev pub MayEnter : Before → List (List ℕ) → Act → Type 0
+abbrev pub MayEnter : Context → List (List ℕ) → Act → Type 0
 MayEnter before words act.Threads = AreThreadNames (drop 1 words) × (0 < length words)
-MayEnter before words (act.Pool pool options) = before.pools < 8
+MayEnter before words (act.Pool pool options) = before.pools < most_pools
 MayEnter before words other = Unit {0}
 
 -- the keyword that stands first, or that none does

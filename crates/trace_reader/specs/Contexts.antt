@@ -1,19 +1,20 @@
--- What stands before a line, as the reader keeps it.
-use Rattle.std.specs.Prelude.{ℕ, List, map}
+-- What stands before a line, and as the reader keeps it.
+use Rattle.std.specs.Prelude.{ℕ, Bool, List}
 use Rattle.std.specs.HashSet.{contains_by}
 use Rattle.std.specs.Str.{bytes_eq}
-use Rattle.trace_reader.specs.declared.names.ThreadName.{ThreadName}
-use Rattle.trace_reader.specs.declared.before.Context.{Context}
-use Rattle.trace_reader.specs.Slots.{Before}
+use Rattle.pool_types.specs.Texts.{names_of}
+use Rattle.trace_reader.specs.declared.context.Context as kept
 
--- the bytes of a thread's name
-abbrev pub name_bytes : ThreadName → List ℕ
-name_bytes name = name.bytes.items
+-- the names of the threads, how many pools were made, and which names were bound
+pub record Context : Type 0 where
+  pub names : List (List ℕ)
+  pub pools : ℕ
+  pub bound : List ℕ → Bool
 
 -- what the reader's context says
-abbrev pub before_of : Context → Before
-before_of context = record {
-  names = map name_bytes context.names.items;
+abbrev pub context_of : kept.Context → Context
+context_of context = record {
+  names = names_of context.names.items;
   pools = context.pools;
   bound = λ word. contains_by (λ name. bytes_eq word name.bytes.items) context.bound;
 }

@@ -1,6 +1,9 @@
--- The fixed words of the language.
+-- The fixed words of the language, and the names of rows.
 use Rattle.std.specs.Prelude.{◌≡◌, ◌≢◌, ℕ, List, codes, Some, None}
 use Rattle.std.specs.declared.option.Option.{Option}
+use Rattle.pool_types.specs.declared.rows.Row.{Row}
+use Rattle.pool_types.specs.declared.rows.Row.TheVariants.{Nothing}
+use Rattle.pool_types.specs.Rows.{row_name}
 use Rattle.trace_reader.specs.declared.keywords.Keyword.{Keyword}
 use Rattle.trace_reader.specs.declared.keywords.Keyword.TheVariants.{ThreadsWord, PoolWord, RawWord, BeginWord, StepWord, UpToWord, FinishWord, ResetWord, DestroyWord}
 use Rattle.trace_reader.specs.declared.keywords.CallWord.{CallWord}
@@ -52,3 +55,8 @@ IsCallWordOf word None = (call : CallWord) → word ≢ call_text call
 abbrev pub IsScriptWordOf : List ℕ → Option ScriptWord → Type 0
 IsScriptWordOf word (Some raw) = word ≡ script_text raw
 IsScriptWordOf word None = (raw : ScriptWord) → word ≢ script_text raw
+
+-- the row that the word names, or that it names none
+abbrev pub IsRowOf : List ℕ → Option Row → Type 0
+IsRowOf word (Some row) = (word ≡ row_name row) × (row ≢ Nothing)
+IsRowOf word None = (row : Row) → row ≢ Nothing → word ≢ row_name row

@@ -1,13 +1,13 @@
 pub mod Words
 pub mod Names
-pub mod Faults
+pub mod Refusals
 pub mod Keywords
-pub mod Forms
-pub mod Slots
+pub mod Combinators
 pub mod Contexts
+pub mod Slots
 pub mod Options
-pub mod Rows
 pub mod Acts
 pub mod Text
 pub mod Steps
 pub mod Served
+pub mod Laws

@@ -2,7 +2,8 @@
 use Rattle.std.specs.Prelude.{◌≡◌, ◌≢◌, ℕ, ◌+◌, Bool, true, false, ◌&&◌, ◌||◌, ◌==◌, nat_le, nat_lt, List, [], ◌∷◌, length, codes, Some, None}
 use Rattle.std.specs.List.{list_all}
 use Rattle.std.specs.declared.option.Option.{Option}
-use Rattle.trace_reader.specs.declared.names.ThreadName.{ThreadName}
+use Rattle.pool_types.specs.Limits.{bound_name_bytes, thread_name_bytes}
+use Rattle.pool_types.specs.declared.texts.ThreadName.{ThreadName}
 use Rattle.trace_reader.specs.declared.names.BoundName.{BoundName}
 
 -- one of the 26 letters from this one on
@@ -20,11 +21,11 @@ is_name first most (letter ∷ more) = is_letter first letter && (nat_lt (length
 
 -- a thread's name has capital letters and at most 8 bytes
 abbrev pub IsThreadName : List ℕ → Type 0
-IsThreadName word = is_name 65 8 word ≡ true
+IsThreadName word = is_name 65 thread_name_bytes word ≡ true
 
 -- a bound name has small letters and at most 16 bytes, and is not `null`
 abbrev pub IsBoundName : List ℕ → Type 0
-IsBoundName word = (is_name 97 16 word ≡ true) × (word ≢ codes "null")
+IsBoundName word = (is_name 97 bound_name_bytes word ≡ true) × (word ≢ codes "null")
 
 -- the thread's name that the word spells, or that it spells none
 abbrev pub IsThreadNameOf : List ℕ → Option ThreadName → Type 0

@@ -4,12 +4,13 @@ use Rattle.std.specs.declared.option.Option.{Option}
 use Rattle.std.specs.List.{list_any}
 use Rattle.std.specs.Fmt.{decimal}
 use Rattle.std.specs.Borrow.{Bor}
-use Rattle.trace_reader.specs.declared.refusal.Fault.{Fault}
-use Rattle.trace_reader.specs.declared.refusal.Fault.TheVariants.{Spelling, Number, PoolOrder}
+use Rattle.trace_reader.specs.declared.refusal.Refusal.{Refusal}
+use Rattle.trace_reader.specs.declared.refusal.Refusal.TheVariants.{Spelling, Number, PoolOrder}
 use Rattle.trace_reader.specs.declared.acts.PoolOption.{PoolOption}
 use Rattle.trace_reader.specs.declared.acts.PoolOption.TheVariants.{Fixed, Keep, NoGet, NoFree, Gran, Region, Span, Version, Reserved}
 use Rattle.trace_reader.specs.declared.options.ValueWord.{ValueWord}
 use Rattle.trace_reader.specs.declared.options.ValueWord.TheVariants.{GranValue, RegionValue, SpanValue, VersionValue, ReservedValue}
+use Rattle.pool_types.specs.Limits.{option_numbers}
 use Rattle.arrayvec.specs.ArrayVec.{ArrayVec}
 use Rattle.trace_reader.specs.Slots.{is_text}
 
@@ -25,9 +26,9 @@ value_text ReservedValue = codes "reserved="
 abbrev pub value_limit : ValueWord → ℕ
 value_limit GranValue = 2 ^ 64
 value_limit RegionValue = 2 ^ 64
-value_limit SpanValue = 2 ^ 32
-value_limit VersionValue = 2 ^ 32
-value_limit ReservedValue = 2 ^ 32
+value_limit SpanValue = option_numbers
+value_limit VersionValue = option_numbers
+value_limit ReservedValue = option_numbers
 
 -- the option of this number
 abbrev pub option_of : ValueWord → ℕ → PoolOption
@@ -48,7 +49,7 @@ IsValueOf word (Some pair) = word ≡ value_text pair.0 ++ pair.1.now
 IsValueOf word None = (value : ValueWord) (rest : List ℕ) → word ≢ value_text value ++ rest
 
 -- an option of a pool
-abbrev pub ReadsOption : List ℕ → Result PoolOption Fault → Type 0
+abbrev pub ReadsOption : List ℕ → Result PoolOption Refusal → Type 0
 ReadsOption word result = ((option : PoolOption) × IsFlagOf word (Some option) × (result ≡ Ok option))
     ⊎ ((value : ValueWord) × (n : ℕ) × (word ≡ value_text value ++ decimal n) × (n < value_limit value) × (result ≡ Ok (option_of value n)))
     ⊎ ((value : ValueWord) × (rest : List ℕ) × (word ≡ value_text value ++ rest) × ((n : ℕ) → n < value_limit value → rest ≢ decimal n) × (is_text word ≡ true) × (result ≡ Err Number))
@@ -66,18 +67,18 @@ option_place (Span n) = 6
 option_place (Version n) = 7
 option_place (Reserved n) = 8
 
--- an option of this kind is among them
+-- an option of the same place is among them
 abbrev pub has_option : List PoolOption → PoolOption → Bool
 has_option had option = list_any (λ other. nat_eq (option_place option) (option_place other)) had
 
 -- the options of the words, after those that were read
-abbrev pub ReadsOptions : List PoolOption → List (List ℕ) → Result (List PoolOption) Fault → Type 0
+abbrev pub ReadsOptions : List PoolOption → List (List ℕ) → Result (List PoolOption) Refusal → Type 0
 ReadsOptions had [] result = result ≡ Ok had
-ReadsOptions had (word ∷ words) result = ((fault : Fault) × ReadsOption word (Err fault) × (result ≡ Err fault))
+ReadsOptions had (word ∷ words) result = ((refusal : Refusal) × ReadsOption word (Err refusal) × (result ≡ Err refusal))
     ⊎ ((option : PoolOption) × ReadsOption word (Ok option) × (has_option had option ≡ true) × (result ≡ Err PoolOrder))
     ⊎ ((option : PoolOption) × ReadsOption word (Ok option) × (has_option had option ≡ false) × ReadsOptions (had ++ option ∷ []) words result)
 
 -- the options that the words spell, or the first of them that is refused
-abbrev pub IsReadAsOptions : List (List ℕ) → Result (ArrayVec PoolOption) Fault → Type 0
+abbrev pub IsReadAsOptions : List (List ℕ) → Result (ArrayVec PoolOption) Refusal → Type 0
 IsReadAsOptions words (Ok options) = ReadsOptions [] words (Ok options.items)
-IsReadAsOptions words (Err fault) = ReadsOptions [] words (Err fault)
+IsReadAsOptions words (Err refusal) = ReadsOptions [] words (Err refusal)

@@ -1,13 +1,12 @@
 -- What the lines of a trace that was read are: of one that a replay serves, and of any.
-use Rattle.std.specs.Prelude.{◌≡◌, ℕ, ◌+◌, ◌≤◌, ◌⊎◌, Bool, true, false, List, [], ◌∷◌, length, map, Some, None, Ok}
+use Rattle.std.specs.Prelude.{◌≡◌, ℕ, ◌+◌, ◌≤◌, ◌⊎◌, Bool, true, false, List, [], ◌∷◌, Some, None}
 use Rattle.std.specs.List.{list_any}
 use Rattle.std.specs.Str.{bytes_eq}
 use Rattle.std.specs.declared.option.Option.{Option}
 use Rattle.trace_reader.specs.declared.keywords.CallWord.{CallWord}
 use Rattle.trace_reader.specs.declared.keywords.CallWord.TheVariants.{MallocWord, AlignedWord, ReallocWord, AlignedReallocWord, FreeWord, MsizeWord, IdentifyWord, ExitWord}
-use Rattle.trace_reader.specs.declared.names.ThreadName.{ThreadName}
+use Rattle.pool_types.specs.declared.texts.ThreadName.{ThreadName}
 use Rattle.trace_reader.specs.declared.names.BoundName.{BoundName}
-use Rattle.trace_reader.specs.declared.acts.Forms.{Forms}
 use Rattle.trace_reader.specs.declared.acts.Forms.TheVariants as forms
 use Rattle.trace_reader.specs.declared.acts.PoolOption.TheVariants as option
 use Rattle.trace_reader.specs.declared.acts.What.{What}
@@ -17,9 +16,8 @@ use Rattle.trace_reader.specs.declared.acts.TraceCall.TheVariants as call
 use Rattle.trace_reader.specs.declared.acts.Act.{Act}
 use Rattle.trace_reader.specs.declared.acts.Act.TheVariants as act
 use Rattle.trace_reader.specs.declared.acts.TraceLine.{TraceLine}
-use Rattle.trace_reader.specs.declared.trace.Trace.{Trace}
+use Rattle.pool_types.specs.Limits.{most_lines}
 use Rattle.trace_reader.specs.Acts.{bound_by, serves_call}
-use Rattle.trace_reader.specs.Text.{ReadsTrace}
 
 -- the word that names the call
 abbrev pub word_of_call : TraceCall → CallWord
@@ -63,18 +61,10 @@ AreServed names acts = ((names ≡ []) × (acts ≡ []))
 abbrev pub act_of : TraceLine → Act
 act_of line = line.act
 
--- the law of the traces that a replay serves
-abbrev pub ServesReplays : Type 0
-ServesReplays = (bytes : List ℕ) (trace : Trace) → ReadsTrace forms.Replay bytes (Ok trace) → AreServed trace.names.items (map act_of trace.lines.items)
-
--- the numbers of the lines grow, from this one on, and each is at most 65536
+-- the numbers of the lines grow, from this one on, and each is at most the most lines
 abbrev pub AreNumbered : ℕ → List TraceLine → Type 0
 AreNumbered least [] = Unit {0}
-AreNumbered least (line ∷ lines) = (least ≤ line.line) × (line.line ≤ 65536) × AreNumbered (line.line + 1) lines
-
--- the law of the numbers of lines
-abbrev pub NumbersLines : Type 0
-NumbersLines = (forms : Forms) (bytes : List ℕ) (trace : Trace) → ReadsTrace forms bytes (Ok trace) → AreNumbered 1 trace.lines.items × (length trace.lines.items ≤ 65536)
+AreNumbered least (line ∷ lines) = (least ≤ line.line) × (line.line ≤ most_lines) × AreNumbered (line.line + 1) lines
 
 -- what the call is asked of
 abbrev pub asked_of : TraceCall → Option What
@@ -126,7 +116,3 @@ after_call names (Some call) = with_name names (bound_by call)
 abbrev pub AreBoundInTurn : List (List ℕ) → List Act → Type 0
 AreBoundInTurn names [] = Unit {0}
 AreBoundInTurn names (act ∷ acts) = IsBoundInTurn names (call_in act) × AreBoundInTurn (after_call names (call_in act)) acts
-
--- the law of the names that a trace binds
-abbrev pub BindsInTurn : Type 0
-BindsInTurn = (forms : Forms) (bytes : List ℕ) (trace : Trace) → ReadsTrace forms bytes (Ok trace) → AreBoundInTurn [] (map act_of trace.lines.items)

@@ -1,17 +1,17 @@
 //! The calls of a line.
 ghost use Rattle.std.specs.Prelude.{◌≡◌, ◌≢◌, ◌<◌, ◌≤◌, ◌+◌, true, false, map, codes, slice_get, Some, IsTrue, ◌↔◌};
 ghost use Rattle.trace_reader.specs.Words.{items_of};
-ghost use Rattle.trace_reader.specs.Forms.{WordAt, Ends, Then};
+ghost use Rattle.trace_reader.specs.Combinators.{WordAt, Ends, Then};
 ghost use Rattle.trace_reader.specs.Slots.{ReadsWhat};
 ghost use Rattle.trace_reader.specs.Acts.{AnyNumber, BindingCall, PlainCall, NamedCall, ReadsCall, ReadsCallWord, binds};
-ghost use Rattle.trace_reader.specs.Contexts.{before_of};
+ghost use Rattle.trace_reader.specs.Contexts.{context_of};
 ghost use Rattle.trace_reader.specs.declared.keywords.CallWord.TheVariants.{MallocWord, AlignedWord, ReallocWord, AlignedReallocWord, FreeWord, MsizeWord, IdentifyWord, ExitWord};
 
 use crate::acts::{TraceCall, What};
-use crate::before::Context;
+use crate::context::Context;
 use crate::keywords::{CallWord, read_call_word};
 use crate::names::BoundName;
-use crate::refusal::Fault;
+use crate::refusal::Refusal;
 use crate::slots::{end_at, new_name_at, number_at, size_at, what_at, word_at};
 use crate::words::is_same;
 
@@ -27,7 +27,7 @@ pub fn is_equals_at(words: &[Vec<u8>], at: usize) -> bool
 }
 
 /// Whether the call binds a name.
-fn binds_name(call: CallWord) -> bool
+fn binds(call: CallWord) -> bool
     ensures { result ≡ binds call }
 {
     match call {
@@ -41,12 +41,12 @@ fn binds_name(call: CallWord) -> bool
 }
 
 /// The call whose word stands at this place, of those that bind a name or of those that bind none.
-fn call_word_at(binding: bool, words: &[Vec<u8>], at: usize) -> Result<CallWord, Fault>
+fn call_word_at(binding: bool, words: &[Vec<u8>], at: usize) -> Result<CallWord, Refusal>
     ensures { WordAt (ReadsCallWord binding) (map items_of words.now) at result }
 {
     match read_call_word(word_at(words, at)?) {
-        Some(call) if binds_name(call) == binding => Ok(call),
-        _ => Err(Fault::Spelling),
+        Some(call) if binds(call) == binding => Ok(call),
+        _ => Err(Refusal::Spelling),
     }
 }
 
@@ -57,9 +57,9 @@ fn malloc_at(
     name: BoundName,
     words: &[Vec<u8>],
     at: usize,
-) -> Result<TraceCall, Fault>
+) -> Result<TraceCall, Refusal>
     requires { at < 100 }
-    ensures { BindingCall more (before_of context.now) name MallocWord (map items_of words.now) at result }
+    ensures { BindingCall more (context_of context.now) name MallocWord (map items_of words.now) at result }
 {
     let size = size_at(more, words, at)?;
     end_at(words, at + 1)?;
@@ -73,9 +73,9 @@ fn aligned_at(
     name: BoundName,
     words: &[Vec<u8>],
     at: usize,
-) -> Result<TraceCall, Fault>
+) -> Result<TraceCall, Refusal>
     requires { at < 100 }
-    ensures { BindingCall more (before_of context.now) name AlignedWord (map items_of words.now) at result }
+    ensures { BindingCall more (context_of context.now) name AlignedWord (map items_of words.now) at result }
 {
     let size = number_at(words, at, 0, u64::MAX)?;
     let at = at + 1;
@@ -96,9 +96,9 @@ fn realloc_at(
     name: BoundName,
     words: &[Vec<u8>],
     at: usize,
-) -> Result<TraceCall, Fault>
+) -> Result<TraceCall, Refusal>
     requires { at < 100 }
-    ensures { BindingCall more (before_of context.now) name ReallocWord (map items_of words.now) at result }
+    ensures { BindingCall more (context_of context.now) name ReallocWord (map items_of words.now) at result }
 {
     let what = what_at(context, words, at)?;
     let at = at + 1;
@@ -114,7 +114,7 @@ fn aligned_realloc_sizes_at(
     what: What,
     words: &[Vec<u8>],
     at: usize,
-) -> Result<TraceCall, Fault>
+) -> Result<TraceCall, Refusal>
     requires { at < 101 }
     ensures { Then AnyNumber (λ size. Then AnyNumber (λ alignment. Ends (TraceCall.AlignedRealloc name what size alignment)))
         (map items_of words.now) at result }
@@ -139,9 +139,9 @@ fn aligned_realloc_at(
     name: BoundName,
     words: &[Vec<u8>],
     at: usize,
-) -> Result<TraceCall, Fault>
+) -> Result<TraceCall, Refusal>
     requires { at < 100 }
-    ensures { BindingCall more (before_of context.now) name AlignedReallocWord (map items_of words.now) at result }
+    ensures { BindingCall more (context_of context.now) name AlignedReallocWord (map items_of words.now) at result }
 {
     let what = what_at(context, words, at)?;
     aligned_realloc_sizes_at(name, what, words, at + 1)
@@ -155,10 +155,10 @@ fn binding_call_at(
     call: CallWord,
     words: &[Vec<u8>],
     at: usize,
-) -> Result<TraceCall, Fault>
+) -> Result<TraceCall, Refusal>
     requires binding { binds call ≡ true }
     requires near { at < 100 }
-    ensures { BindingCall more (before_of context.now) name call (map items_of words.now) at result }
+    ensures { BindingCall more (context_of context.now) name call (map items_of words.now) at result }
 {
     match call {
         CallWord::MallocWord => malloc_at(more, context, name, words, at),
@@ -171,9 +171,9 @@ fn binding_call_at(
 }
 
 /// What a free is asked of.
-fn free_at(context: &Context, words: &[Vec<u8>], at: usize) -> Result<TraceCall, Fault>
+fn free_at(context: &Context, words: &[Vec<u8>], at: usize) -> Result<TraceCall, Refusal>
     requires { at < 100 }
-    ensures { PlainCall (before_of context.now) FreeWord (map items_of words.now) at result }
+    ensures { PlainCall (context_of context.now) FreeWord (map items_of words.now) at result }
 {
     let what = what_at(context, words, at)?;
     end_at(words, at + 1)?;
@@ -181,9 +181,9 @@ fn free_at(context: &Context, words: &[Vec<u8>], at: usize) -> Result<TraceCall,
 }
 
 /// What an msize is asked of.
-fn msize_at(context: &Context, words: &[Vec<u8>], at: usize) -> Result<TraceCall, Fault>
+fn msize_at(context: &Context, words: &[Vec<u8>], at: usize) -> Result<TraceCall, Refusal>
     requires { at < 100 }
-    ensures { PlainCall (before_of context.now) MsizeWord (map items_of words.now) at result }
+    ensures { PlainCall (context_of context.now) MsizeWord (map items_of words.now) at result }
 {
     let what = what_at(context, words, at)?;
     end_at(words, at + 1)?;
@@ -191,9 +191,9 @@ fn msize_at(context: &Context, words: &[Vec<u8>], at: usize) -> Result<TraceCall
 }
 
 /// What an identify is asked of.
-fn identify_at(context: &Context, words: &[Vec<u8>], at: usize) -> Result<TraceCall, Fault>
+fn identify_at(context: &Context, words: &[Vec<u8>], at: usize) -> Result<TraceCall, Refusal>
     requires { at < 100 }
-    ensures { PlainCall (before_of context.now) IdentifyWord (map items_of words.now) at result }
+    ensures { PlainCall (context_of context.now) IdentifyWord (map items_of words.now) at result }
 {
     let what = what_at(context, words, at)?;
     end_at(words, at + 1)?;
@@ -201,8 +201,8 @@ fn identify_at(context: &Context, words: &[Vec<u8>], at: usize) -> Result<TraceC
 }
 
 /// An exit, which asks for nothing.
-fn exit_at(context: &Context, words: &[Vec<u8>], at: usize) -> Result<TraceCall, Fault>
-    ensures { PlainCall (before_of context.now) ExitWord (map items_of words.now) at result }
+fn exit_at(context: &Context, words: &[Vec<u8>], at: usize) -> Result<TraceCall, Refusal>
+    ensures { PlainCall (context_of context.now) ExitWord (map items_of words.now) at result }
 {
     end_at(words, at)?;
     Ok(TraceCall::Exit)
@@ -214,10 +214,10 @@ fn plain_call_at(
     call: CallWord,
     words: &[Vec<u8>],
     at: usize,
-) -> Result<TraceCall, Fault>
+) -> Result<TraceCall, Refusal>
     requires plain { binds call ≡ false }
     requires near { at < 100 }
-    ensures { PlainCall (before_of context.now) call (map items_of words.now) at result }
+    ensures { PlainCall (context_of context.now) call (map items_of words.now) at result }
 {
     match call {
         CallWord::FreeWord => free_at(context, words, at),
@@ -237,9 +237,9 @@ fn named_call_at(
     context: &Context,
     words: &[Vec<u8>],
     at: usize,
-) -> Result<TraceCall, Fault>
+) -> Result<TraceCall, Refusal>
     requires { at < 50 }
-    ensures { NamedCall more (before_of context.now) (map items_of words.now) at result }
+    ensures { NamedCall more (context_of context.now) (map items_of words.now) at result }
 {
     let name = new_name_at(context, words, at)?;
     let at = at + 1;
@@ -255,9 +255,9 @@ pub fn call_at(
     context: &Context,
     words: &[Vec<u8>],
     at: usize,
-) -> Result<TraceCall, Fault>
+) -> Result<TraceCall, Refusal>
     requires { at < 50 }
-    ensures { ReadsCall more (before_of context.now) (map items_of words.now) at result }
+    ensures { ReadsCall more (context_of context.now) (map items_of words.now) at result }
 {
     if is_equals_at(words, at + 1) {
         return named_call_at(more, context, words, at);

@@ -1,8 +1,9 @@
-//! The fixed words of the language.
+//! The fixed words of the language, and the names of rows.
 ghost use Rattle.std.specs.Prelude.{◌≡◌};
-ghost use Rattle.trace_reader.specs.Keywords.{IsKeywordOf, IsCallWordOf, IsScriptWordOf};
+ghost use Rattle.trace_reader.specs.Keywords.{IsCallWordOf, IsKeywordOf, IsRowOf, IsScriptWordOf};
 
 use crate::words::is_same;
+use pool_types::Row;
 
 /// A word that begins a line which is no call.
 #[derive(Clone, Copy, Debug, PartialEq, Eq)]
@@ -107,4 +108,16 @@ pub fn read_script_word(word: &[u8]) -> Option<ScriptWord>
     } else {
         None
     }
+}
+
+/// The row that the word names.
+pub fn read_row(word: &[u8]) -> Option<Row>
+    ensures { IsRowOf word.now result }
+{
+    for row in &Row::ALL {
+        if is_same(row.name(), word) {
+            return Some(*row);
+        }
+    }
+    None
 }

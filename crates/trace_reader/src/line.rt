@@ -1,44 +1,45 @@
 //! One line of a trace, word by word.
 ghost use Rattle.std.specs.Prelude.{◌≡◌, ◌≢◌, ◌<◌, ◌≤◌, ◌+◌, ◌⊎◌, [], ◌∷◌, true, false, map, drop, length, codes, slice_get, Some, None, IsTrue, ◌↔◌, MatchOption};
+ghost use Rattle.pool_types.specs.Limits.{most_turns};
 ghost use Rattle.trace_reader.specs.Words.{items_of};
-ghost use Rattle.trace_reader.specs.Forms.{WordAt, Ends, Then, Wraps};
+ghost use Rattle.trace_reader.specs.Combinators.{WordAt, Ends, Then, Wraps};
 ghost use Rattle.trace_reader.specs.Slots.{ReadsNumber};
 ghost use Rattle.trace_reader.specs.Acts.{CallLine, Calls, IsCalled, IsFirstWord, IsPlainPool, KeywordLine, PoolOptions, RawEntry, ReadsCall, ReadsRow, ReadsScriptWord, ReadsWords, serves_call, serves_keyword, serves_more};
-ghost use Rattle.trace_reader.specs.Contexts.{before_of};
+ghost use Rattle.trace_reader.specs.Contexts.{context_of};
 ghost use Rattle.trace_reader.specs.Keywords.{call_text};
 ghost use Rattle.trace_reader.specs.declared.keywords.CallWord.{CallWord};
 ghost use Rattle.trace_reader.specs.declared.keywords.Keyword.TheVariants.{ThreadsWord, PoolWord, RawWord, BeginWord, StepWord, UpToWord, FinishWord, ResetWord, DestroyWord};
 
 use crate::acts::{Act, Forms, PoolOption};
-use crate::before::Context;
 use crate::calls::{call_at, is_equals_at};
+use crate::context::Context;
 use crate::keywords::{
-    CallWord, Keyword, ScriptWord, read_call_word, read_keyword, read_script_word,
+    CallWord, Keyword, ScriptWord, read_call_word, read_keyword, read_row, read_script_word,
 };
 use crate::options::options_from;
-use crate::refusal::Fault;
-use crate::rows::read_row;
+use crate::refusal::Refusal;
 use crate::slots::{end_at, next_pool_at, number_at, pool_at, thread_at, word_at};
 use crate::threads::threads_line;
 use pool_types::Row;
+use pool_types::limits::MOST_TURNS;
 
 /// The script's entry whose word stands at this place.
-fn script_word_at(words: &[Vec<u8>], at: usize) -> Result<ScriptWord, Fault>
+fn script_word_at(words: &[Vec<u8>], at: usize) -> Result<ScriptWord, Refusal>
     ensures { WordAt ReadsScriptWord (map items_of words.now) at result }
 {
     match read_script_word(word_at(words, at)?) {
         Some(script) => Ok(script),
-        None => Err(Fault::Spelling),
+        None => Err(Refusal::Spelling),
     }
 }
 
 /// The row whose name stands at this place.
-fn row_at(words: &[Vec<u8>], at: usize) -> Result<Row, Fault>
+fn row_at(words: &[Vec<u8>], at: usize) -> Result<Row, Refusal>
     ensures { WordAt ReadsRow (map items_of words.now) at result }
 {
     match read_row(word_at(words, at)?) {
         Some(row) => Ok(row),
-        None => Err(Fault::Spelling),
+        None => Err(Refusal::Spelling),
     }
 }
 
@@ -61,7 +62,7 @@ fn is_plain_pool(pool: u16, options: &[PoolOption]) -> bool
 }
 
 /// What follows the pool of a pool line.
-fn pool_options_at(more: bool, pool: u16, words: &[Vec<u8>], at: usize) -> Result<Act, Fault>
+fn pool_options_at(more: bool, pool: u16, words: &[Vec<u8>], at: usize) -> Result<Act, Refusal>
     requires { at ≤ length words.now }
     ensures { PoolOptions more pool (map items_of words.now) at result }
 {
@@ -69,20 +70,20 @@ fn pool_options_at(more: bool, pool: u16, words: &[Vec<u8>], at: usize) -> Resul
     if more || is_plain_pool(pool, options.as_slice()) {
         Ok(Act::Pool { pool, options })
     } else {
-        Err(Fault::NotServed)
+        Err(Refusal::NotServed)
     }
 }
 
 /// A pool line.
-fn pool_line(more: bool, context: &Context, words: &[Vec<u8>]) -> Result<Act, Fault>
-    ensures { KeywordLine more (before_of context.now) PoolWord (map items_of words.now) result }
+fn pool_line(more: bool, context: &Context, words: &[Vec<u8>]) -> Result<Act, Refusal>
+    ensures { KeywordLine more (context_of context.now) PoolWord (map items_of words.now) result }
 {
     let pool = next_pool_at(context, words, 1)?;
     pool_options_at(more, pool, words, 2)
 }
 
 /// What a raw line enters as the answer of a `get`.
-fn raw_get_at(pool: u16, words: &[Vec<u8>], at: usize) -> Result<Act, Fault>
+fn raw_get_at(pool: u16, words: &[Vec<u8>], at: usize) -> Result<Act, Refusal>
     requires { at < 100 }
     ensures { RawEntry pool ScriptWord.GetWord (map items_of words.now) at result }
 {
@@ -95,7 +96,7 @@ fn raw_get_at(pool: u16, words: &[Vec<u8>], at: usize) -> Result<Act, Fault>
 }
 
 /// What follows the word for a script's entry.
-fn raw_entry_at(pool: u16, script: ScriptWord, words: &[Vec<u8>], at: usize) -> Result<Act, Fault>
+fn raw_entry_at(pool: u16, script: ScriptWord, words: &[Vec<u8>], at: usize) -> Result<Act, Refusal>
     requires { at < 100 }
     ensures { RawEntry pool script (map items_of words.now) at result }
 {
@@ -117,8 +118,8 @@ fn raw_entry_at(pool: u16, script: ScriptWord, words: &[Vec<u8>], at: usize) -> 
 }
 
 /// A raw line.
-fn raw_line(more: bool, context: &Context, words: &[Vec<u8>]) -> Result<Act, Fault>
-    ensures { KeywordLine more (before_of context.now) RawWord (map items_of words.now) result }
+fn raw_line(more: bool, context: &Context, words: &[Vec<u8>]) -> Result<Act, Refusal>
+    ensures { KeywordLine more (context_of context.now) RawWord (map items_of words.now) result }
 {
     let pool = pool_at(context, words, 1)?;
     let script = script_word_at(words, 2)?;
@@ -133,17 +134,17 @@ fn begun_call_at(
     pool: u16,
     words: &[Vec<u8>],
     at: usize,
-) -> Result<Act, Fault>
+) -> Result<Act, Refusal>
     requires { at < 50 }
-    ensures { Wraps (Act.Begin thread pool) (ReadsCall more (before_of context.now)) (map items_of words.now) at result }
+    ensures { Wraps (Act.Begin thread pool) (ReadsCall more (context_of context.now)) (map items_of words.now) at result }
 {
     let call = call_at(more, context, words, at)?;
     Ok(Act::Begin { thread, pool, call })
 }
 
 /// A begin line.
-fn begin_line(more: bool, context: &Context, words: &[Vec<u8>]) -> Result<Act, Fault>
-    ensures { KeywordLine more (before_of context.now) BeginWord (map items_of words.now) result }
+fn begin_line(more: bool, context: &Context, words: &[Vec<u8>]) -> Result<Act, Refusal>
+    ensures { KeywordLine more (context_of context.now) BeginWord (map items_of words.now) result }
 {
     let thread = thread_at(context, words, 1)?;
     let pool = pool_at(context, words, 2)?;
@@ -151,11 +152,11 @@ fn begin_line(more: bool, context: &Context, words: &[Vec<u8>]) -> Result<Act, F
 }
 
 /// How many turns a step line makes.
-fn turns_at(thread: u8, pool: u16, words: &[Vec<u8>], at: usize) -> Result<Act, Fault>
+fn turns_at(thread: u8, pool: u16, words: &[Vec<u8>], at: usize) -> Result<Act, Refusal>
     requires { at < 100 }
-    ensures { Then (ReadsNumber 1 1000000) (λ turns. Ends (Act.Step thread pool turns)) (map items_of words.now) at result }
+    ensures { Then (ReadsNumber 1 most_turns) (λ turns. Ends (Act.Step thread pool turns)) (map items_of words.now) at result }
 {
-    let turns = number_at(words, at, 1, 1_000_000)?;
+    let turns = number_at(words, at, 1, MOST_TURNS)?;
     end_at(words, at + 1)?;
     Ok(Act::Step {
         thread,
@@ -165,8 +166,8 @@ fn turns_at(thread: u8, pool: u16, words: &[Vec<u8>], at: usize) -> Result<Act, 
 }
 
 /// A step line.
-fn step_line(more: bool, context: &Context, words: &[Vec<u8>]) -> Result<Act, Fault>
-    ensures { KeywordLine more (before_of context.now) StepWord (map items_of words.now) result }
+fn step_line(more: bool, context: &Context, words: &[Vec<u8>]) -> Result<Act, Refusal>
+    ensures { KeywordLine more (context_of context.now) StepWord (map items_of words.now) result }
 {
     let thread = thread_at(context, words, 1)?;
     let pool = pool_at(context, words, 2)?;
@@ -174,7 +175,7 @@ fn step_line(more: bool, context: &Context, words: &[Vec<u8>]) -> Result<Act, Fa
 }
 
 /// The row that an upto line goes to.
-fn last_row_at(thread: u8, pool: u16, words: &[Vec<u8>], at: usize) -> Result<Act, Fault>
+fn last_row_at(thread: u8, pool: u16, words: &[Vec<u8>], at: usize) -> Result<Act, Refusal>
     requires { at < 100 }
     ensures { Then ReadsRow (λ row. Ends (Act.UpTo thread pool row)) (map items_of words.now) at result }
 {
@@ -184,8 +185,8 @@ fn last_row_at(thread: u8, pool: u16, words: &[Vec<u8>], at: usize) -> Result<Ac
 }
 
 /// An upto line.
-fn up_to_line(more: bool, context: &Context, words: &[Vec<u8>]) -> Result<Act, Fault>
-    ensures { KeywordLine more (before_of context.now) UpToWord (map items_of words.now) result }
+fn up_to_line(more: bool, context: &Context, words: &[Vec<u8>]) -> Result<Act, Refusal>
+    ensures { KeywordLine more (context_of context.now) UpToWord (map items_of words.now) result }
 {
     let thread = thread_at(context, words, 1)?;
     let pool = pool_at(context, words, 2)?;
@@ -193,8 +194,8 @@ fn up_to_line(more: bool, context: &Context, words: &[Vec<u8>]) -> Result<Act, F
 }
 
 /// A finish line.
-fn finish_line(more: bool, context: &Context, words: &[Vec<u8>]) -> Result<Act, Fault>
-    ensures { KeywordLine more (before_of context.now) FinishWord (map items_of words.now) result }
+fn finish_line(more: bool, context: &Context, words: &[Vec<u8>]) -> Result<Act, Refusal>
+    ensures { KeywordLine more (context_of context.now) FinishWord (map items_of words.now) result }
 {
     let thread = thread_at(context, words, 1)?;
     let pool = pool_at(context, words, 2)?;
@@ -203,8 +204,8 @@ fn finish_line(more: bool, context: &Context, words: &[Vec<u8>]) -> Result<Act, 
 }
 
 /// A reset line.
-fn reset_line(more: bool, context: &Context, words: &[Vec<u8>]) -> Result<Act, Fault>
-    ensures { KeywordLine more (before_of context.now) ResetWord (map items_of words.now) result }
+fn reset_line(more: bool, context: &Context, words: &[Vec<u8>]) -> Result<Act, Refusal>
+    ensures { KeywordLine more (context_of context.now) ResetWord (map items_of words.now) result }
 {
     let pool = pool_at(context, words, 1)?;
     end_at(words, 2)?;
@@ -212,8 +213,8 @@ fn reset_line(more: bool, context: &Context, words: &[Vec<u8>]) -> Result<Act, F
 }
 
 /// A destroy line.
-fn destroy_line(more: bool, context: &Context, words: &[Vec<u8>]) -> Result<Act, Fault>
-    ensures { KeywordLine more (before_of context.now) DestroyWord (map items_of words.now) result }
+fn destroy_line(more: bool, context: &Context, words: &[Vec<u8>]) -> Result<Act, Refusal>
+    ensures { KeywordLine more (context_of context.now) DestroyWord (map items_of words.now) result }
 {
     let pool = pool_at(context, words, 1)?;
     end_at(words, 2)?;
@@ -228,17 +229,17 @@ fn whole_call_at(
     pool: u16,
     words: &[Vec<u8>],
     at: usize,
-) -> Result<Act, Fault>
+) -> Result<Act, Refusal>
     requires { at < 50 }
-    ensures { Wraps (Act.Call thread pool) (ReadsCall more (before_of context.now)) (map items_of words.now) at result }
+    ensures { Wraps (Act.Call thread pool) (ReadsCall more (context_of context.now)) (map items_of words.now) at result }
 {
     let call = call_at(more, context, words, at)?;
     Ok(Act::Call { thread, pool, call })
 }
 
 /// A line that begins with a thread and makes a whole call.
-fn call_line(more: bool, context: &Context, words: &[Vec<u8>]) -> Result<Act, Fault>
-    ensures { CallLine more (before_of context.now) (map items_of words.now) result }
+fn call_line(more: bool, context: &Context, words: &[Vec<u8>]) -> Result<Act, Refusal>
+    ensures { CallLine more (context_of context.now) (map items_of words.now) result }
 {
     let thread = thread_at(context, words, 0)?;
     let pool = pool_at(context, words, 1)?;
@@ -246,7 +247,7 @@ fn call_line(more: bool, context: &Context, words: &[Vec<u8>]) -> Result<Act, Fa
 }
 
 /// Whether lines of this keyword are served.
-fn is_served_keyword(forms: Forms, key: Keyword) -> bool
+fn serves_keyword(forms: Forms, key: Keyword) -> bool
     ensures { result ≡ serves_keyword forms key }
 {
     match forms {
@@ -274,7 +275,7 @@ fn is_served_keyword(forms: Forms, key: Keyword) -> bool
 }
 
 /// Whether the call is served.
-fn is_served_call(forms: Forms, call: CallWord) -> bool
+fn serves_call(forms: Forms, call: CallWord) -> bool
     ensures { result ≡ serves_call forms call }
 {
     match forms {
@@ -293,7 +294,7 @@ fn is_served_call(forms: Forms, call: CallWord) -> bool
 }
 
 /// Whether more than one thread, pools other than the plain one and great sizes are served.
-fn serves_all(forms: Forms) -> bool
+fn serves_more(forms: Forms) -> bool
     ensures { result ≡ serves_more forms }
 {
     match forms {
@@ -340,7 +341,7 @@ fn has_unserved_call(forms: Forms, words: &[Vec<u8>]) -> bool
     ensures no { result ≡ false → (call : CallWord) → Calls (map items_of words.now) call → serves_call forms call ≡ true }
 {
     match called(words) {
-        Some(call) => !is_served_call(forms, call),
+        Some(call) => !serves_call(forms, call),
         None => false,
     }
 }
@@ -351,9 +352,9 @@ fn keyword_line(
     context: &Context,
     key: Keyword,
     words: &[Vec<u8>],
-) -> Result<Act, Fault>
+) -> Result<Act, Refusal>
     requires { 0 < length words.now }
-    ensures { KeywordLine more (before_of context.now) key (map items_of words.now) result }
+    ensures { KeywordLine more (context_of context.now) key (map items_of words.now) result }
 {
     match key {
         Keyword::ThreadsWord => threads_line(more, context, words),
@@ -369,17 +370,17 @@ fn keyword_line(
 }
 
 /// What the words of a line mean, where these forms are served.
-pub fn read_words(forms: Forms, context: &Context, words: &[Vec<u8>]) -> Result<Act, Fault>
-    ensures { ReadsWords forms (before_of context.now) (map items_of words.now) result }
+pub fn read_words(forms: Forms, context: &Context, words: &[Vec<u8>]) -> Result<Act, Refusal>
+    ensures { ReadsWords forms (context_of context.now) (map items_of words.now) result }
 {
     let Some(key) = first_keyword(words) else {
         if has_unserved_call(forms, words) {
-            return Err(Fault::NotServed);
+            return Err(Refusal::NotServed);
         }
-        return call_line(serves_all(forms), context, words);
+        return call_line(serves_more(forms), context, words);
     };
-    if !is_served_keyword(forms, key) {
-        return Err(Fault::NotServed);
+    if !serves_keyword(forms, key) {
+        return Err(Refusal::NotServed);
     }
-    keyword_line(serves_all(forms), context, key, words)
+    keyword_line(serves_more(forms), context, key, words)
 }

@@ -5,17 +5,13 @@ ghost use Rattle.trace_reader.specs.Names.{IsThreadName, IsThreadNameOf, IsBound
 
 use crate::words::is_same;
 use arrayvec::ArrayVec;
-
-/// A thread's name: a letter A to Z, and then up to seven of A to Z, 0 to 9 and `_`.
-#[derive(Default, Drop)]
-pub struct ThreadName {
-    pub bytes: ArrayVec<u8, 8>,
-}
+use pool_types::ThreadName;
+use pool_types::limits::{BOUND_NAME_BYTES, THREAD_NAME_BYTES};
 
 /// The name of what a call answered: a letter a to z, and then up to 15 of a to z, 0 to 9 and `_`. It is not `null`.
 #[derive(Drop, Hash, PartialEq, Eq)]
 pub struct BoundName {
-    pub bytes: ArrayVec<u8, 16>,
+    pub bytes: ArrayVec<u8, BOUND_NAME_BYTES>,
 }
 
 impl BoundName {
@@ -31,7 +27,7 @@ impl BoundName {
 }
 
 /// Whether the byte may stand behind the first letter of a name, whose letters begin at this one.
-fn may_stand(first: u8, byte: u8) -> bool
+fn may_follow(first: u8, byte: u8) -> bool
     requires { first ≤ 97 }
     ensures { result ≡ may_follow first byte }
 {
@@ -39,15 +35,15 @@ fn may_stand(first: u8, byte: u8) -> bool
 }
 
 /// Whether all these bytes may stand behind the first letter.
-fn may_all_stand(first: u8, bytes: &[u8]) -> bool
+fn may_all_follow(first: u8, bytes: &[u8]) -> bool
     requires { first ≤ 97 }
     ensures { result ≡ list_all (may_follow first) bytes.now }
 {
-    bytes.iter().all(|byte| may_stand(first, *byte))
+    bytes.iter().all(|byte| may_follow(first, *byte))
 }
 
 /// Whether the word is a name of at most so many bytes, whose letters begin at this one.
-fn is_a_name(first: u8, most: usize, word: &[u8]) -> bool
+fn is_name(first: u8, most: usize, word: &[u8]) -> bool
     requires { first ≤ 97 }
     ensures { result ≡ is_name first most word.now }
 {
@@ -57,7 +53,7 @@ fn is_a_name(first: u8, most: usize, word: &[u8]) -> bool
             if *letter < first || first + 26 <= *letter || most <= more.len() {
                 return false;
             }
-            may_all_stand(first, more)
+            may_all_follow(first, more)
         }
     }
 }
@@ -66,7 +62,7 @@ fn is_a_name(first: u8, most: usize, word: &[u8]) -> bool
 pub fn is_thread_name(word: &[u8]) -> bool
     ensures { IsTrue result ↔ IsThreadName word.now }
 {
-    is_a_name(b'A', 8, word)
+    is_name(b'A', THREAD_NAME_BYTES, word)
 }
 
 /// The thread's name that the word spells.
@@ -84,7 +80,7 @@ pub fn read_thread_name(word: &[u8]) -> Option<ThreadName>
 pub fn read_bound_name(word: &[u8]) -> Option<BoundName>
     ensures { IsBoundNameOf word.now result }
 {
-    if !is_a_name(b'a', 16, word) || is_same(word, b"null") {
+    if !is_name(b'a', BOUND_NAME_BYTES, word) || is_same(word, b"null") {
         return None;
     }
     let bytes = ArrayVec::try_from(word).ok()?;

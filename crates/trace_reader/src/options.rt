@@ -4,7 +4,7 @@ ghost use Rattle.trace_reader.specs.Words.{items_of};
 ghost use Rattle.trace_reader.specs.Options.{IsFlagOf, IsValueOf, ReadsOption, ReadsOptions, IsReadAsOptions, has_option, option_of, option_place, value_limit, value_text};
 
 use crate::acts::PoolOption;
-use crate::refusal::Fault;
+use crate::refusal::Refusal;
 use crate::slots::{misread, number_in};
 use crate::words::is_same;
 use arrayvec::ArrayVec;
@@ -62,8 +62,8 @@ fn read_value(word: &[u8]) -> Option<(ValueWord, &[u8])>
     }
 }
 
-/// The greatest number of an option.
-fn greatest(value: ValueWord) -> u64
+/// The greatest_value number of an option.
+fn greatest_value(value: ValueWord) -> u64
     ensures { result + 1 ≡ value_limit value }
 {
     match value {
@@ -75,7 +75,7 @@ fn greatest(value: ValueWord) -> u64
 }
 
 /// The option of this number.
-fn with_number(value: ValueWord, number: u64) -> PoolOption
+fn option_of(value: ValueWord, number: u64) -> PoolOption
     requires { number < value_limit value }
     ensures { result ≡ option_of value number }
 {
@@ -89,23 +89,23 @@ fn with_number(value: ValueWord, number: u64) -> PoolOption
 }
 
 /// The option that the word spells.
-fn read_option(word: &[u8]) -> Result<PoolOption, Fault>
+fn read_option(word: &[u8]) -> Result<PoolOption, Refusal>
     ensures { ReadsOption word.now result }
 {
     if let Some(option) = read_flag(word) {
         return Ok(option);
     }
     let Some((value, rest)) = read_value(word) else {
-        return Err(Fault::Spelling);
+        return Err(Refusal::Spelling);
     };
-    match number_in(0, greatest(value), rest) {
-        Ok(number) => Ok(with_number(value, number)),
+    match number_in(0, greatest_value(value), rest) {
+        Ok(number) => Ok(option_of(value, number)),
         Err(_) => Err(misread(word)),
     }
 }
 
 /// The place of an option in the list of options.
-fn place_of(option: PoolOption) -> u8
+fn option_place(option: PoolOption) -> u8
     ensures { result ≡ option_place option }
 {
     match option {
@@ -121,24 +121,24 @@ fn place_of(option: PoolOption) -> u8
     }
 }
 
-/// Whether an option of this kind is among them.
-fn is_among(options: &[PoolOption], option: PoolOption) -> bool
+/// Whether an option of the same place is among them.
+fn has_option(options: &[PoolOption], option: PoolOption) -> bool
     ensures { result ≡ has_option options.now option }
 {
-    let place = place_of(option);
-    options.iter().any(|other| place == place_of(*other))
+    let place = option_place(option);
+    options.iter().any(|other| place == option_place(*other))
 }
 
 /// The options that the words from this place on spell.
-pub fn options_from(words: &[Vec<u8>], at: usize) -> Result<ArrayVec<PoolOption, 9>, Fault>
+pub fn options_from(words: &[Vec<u8>], at: usize) -> Result<ArrayVec<PoolOption, 9>, Refusal>
     requires { at ≤ length words.now }
     ensures { IsReadAsOptions (drop at (map items_of words.now)) result }
 {
     let mut options: ArrayVec<PoolOption, 9> = ArrayVec::new();
     for i in at..words.len() {
         let option = read_option(words[i].as_slice())?;
-        if is_among(options.as_slice(), option) {
-            return Err(Fault::PoolOrder);
+        if has_option(options.as_slice(), option) {
+            return Err(Refusal::PoolOrder);
         }
         options.push(option);
     }

@@ -1,6 +1,6 @@
 //! Why a trace is refused.
 ghost use Rattle.std.specs.Prelude.{◌≡◌};
-ghost use Rattle.trace_reader.specs.Faults.{kind_of};
+ghost use Rattle.trace_reader.specs.Refusals.{refusal_kind};
 
 use std::alloc::AllocError;
 
@@ -31,7 +31,7 @@ impl From<AllocError> for TraceRefused {
 
 /// What is wrong with a line. This project's own, as the numbers of the kinds are.
 #[derive(Clone, Copy, Debug, PartialEq, Eq)]
-pub enum Fault {
+pub enum Refusal {
     /// A word is missing, left over or unknown, or not spelled as its place asks. Kind 1.
     Spelling,
     /// A number is none, or is out of its range. Kind 2.
@@ -58,24 +58,24 @@ pub enum Fault {
     NotServed,
 }
 
-impl Fault {
+impl Refusal {
     /// The number of the kind.
     pub fn kind(self) -> u8
-        ensures { result ≡ kind_of self }
+        ensures { result ≡ refusal_kind self }
     {
         match self {
-            Fault::Spelling => 1,
-            Fault::Number => 2,
-            Fault::UnknownPool => 3,
-            Fault::UnknownThread => 4,
-            Fault::UnboundName => 5,
-            Fault::BoundBefore => 6,
-            Fault::PoolOrder => 7,
-            Fault::ThreadsAgain => 8,
-            Fault::TooMany => 9,
-            Fault::TooLong => 10,
-            Fault::NoNewline => 11,
-            Fault::NotServed => 12,
+            Refusal::Spelling => 1,
+            Refusal::Number => 2,
+            Refusal::UnknownPool => 3,
+            Refusal::UnknownThread => 4,
+            Refusal::UnboundName => 5,
+            Refusal::BoundBefore => 6,
+            Refusal::PoolOrder => 7,
+            Refusal::ThreadsAgain => 8,
+            Refusal::TooMany => 9,
+            Refusal::TooLong => 10,
+            Refusal::NoNewline => 11,
+            Refusal::NotServed => 12,
         }
     }
 }

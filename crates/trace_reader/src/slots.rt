@@ -2,66 +2,67 @@
 ghost use Rattle.std.specs.Prelude.{◌≡◌, ◌≢◌, ◌≤◌, ◌<◌, ◌^◌, ◌-◌, ◌+◌, true, false, map, MatchResult, MatchOption, List, ℕ, ◌++◌, ◌∷◌, slice_get, Some, None, IsTrue, ◌↔◌, length};
 ghost use Rattle.std.specs.List.{list_all};
 ghost use Rattle.trace_reader.specs.Words.{items_of};
-ghost use Rattle.trace_reader.specs.Forms.{WordAt, Ends};
+ghost use Rattle.trace_reader.specs.Combinators.{WordAt, Ends};
 ghost use Rattle.trace_reader.specs.Slots.{IsMisread, ReadsNumber, ReadsSize, ReadsThread, ReadsPool, ReadsNextPool, ReadsNewName, ReadsWhat, IsPoolOf, IsPairOf, IsPlaceOf, HasNo, is_text, is_printable};
-ghost use Rattle.trace_reader.specs.Contexts.{before_of};
+ghost use Rattle.trace_reader.specs.Contexts.{context_of};
 
 use crate::acts::What;
-use crate::before::Context;
+use crate::context::Context;
 use crate::names::{BoundName, is_thread_name, read_bound_name};
 use crate::numbers::read_number;
-use crate::refusal::Fault;
+use crate::refusal::Refusal;
 use crate::words::is_same;
 use pool_types::Place;
+use pool_types::limits::{MOST_POOLS, REGION_NUMBERS};
 
 /// The word at this place.
-pub fn word_at(words: &[Vec<u8>], at: usize) -> Result<&[u8], Fault>
+pub fn word_at(words: &[Vec<u8>], at: usize) -> Result<&[u8], Refusal>
     ensures { MatchResult result (λ word. slice_get (map items_of words.now) at ≡ Some word.now)
-        (λ fault. (slice_get (map items_of words.now) at ≡ None) × (fault ≡ Fault.Spelling)) }
+        (λ refusal. (slice_get (map items_of words.now) at ≡ None) × (refusal ≡ Refusal.Spelling)) }
 {
     match words.get(at) {
         Some(word) => Ok(word.as_slice()),
-        None => Err(Fault::Spelling),
+        None => Err(Refusal::Spelling),
     }
 }
 
 /// Whether the byte is one from space to `~`.
-fn is_readable(byte: u8) -> bool
+fn is_printable(byte: u8) -> bool
     ensures { result ≡ is_printable byte }
 {
     b' ' <= byte && byte <= b'~'
 }
 
 /// Whether all these bytes are readable.
-fn are_readable(bytes: &[u8]) -> bool
+fn are_printable(bytes: &[u8]) -> bool
     ensures { result ≡ list_all is_printable bytes.now }
 {
-    bytes.iter().all(|byte| is_readable(*byte))
+    bytes.iter().all(|byte| is_printable(*byte))
 }
 
 /// Whether the word is not empty, and all its bytes are readable.
-fn is_all_readable(word: &[u8]) -> bool
+fn is_text(word: &[u8]) -> bool
     ensures { result ≡ is_text word.now }
 {
     match word {
         [] => false,
-        [first, more @ ..] => is_readable(*first) && are_readable(more),
+        [first, more @ ..] => is_printable(*first) && are_printable(more),
     }
 }
 
 /// What is wrong with a word that is no number, where one is due.
-pub fn misread(word: &[u8]) -> Fault
+pub fn misread(word: &[u8]) -> Refusal
     ensures { IsMisread word.now result }
 {
-    if is_all_readable(word) {
-        Fault::Number
+    if is_text(word) {
+        Refusal::Number
     } else {
-        Fault::Spelling
+        Refusal::Spelling
     }
 }
 
 /// The number in this range that the word spells.
-pub fn number_in(low: u64, high: u64, word: &[u8]) -> Result<u64, Fault>
+pub fn number_in(low: u64, high: u64, word: &[u8]) -> Result<u64, Refusal>
     ensures { ReadsNumber low high word.now result }
 {
     let Some(number) = read_number(word) else {
@@ -74,7 +75,7 @@ pub fn number_in(low: u64, high: u64, word: &[u8]) -> Result<u64, Fault>
 }
 
 /// The number in this range at this place.
-pub fn number_at(words: &[Vec<u8>], at: usize, low: u64, high: u64) -> Result<u64, Fault>
+pub fn number_at(words: &[Vec<u8>], at: usize, low: u64, high: u64) -> Result<u64, Refusal>
     ensures { WordAt (ReadsNumber low high) (map items_of words.now) at result }
 {
     number_in(low, high, word_at(words, at)?)
@@ -92,74 +93,74 @@ fn pool_of(word: &[u8]) -> Option<u16>
 }
 
 /// The pool that was made, at this place.
-pub fn pool_at(context: &Context, words: &[Vec<u8>], at: usize) -> Result<u16, Fault>
-    ensures { WordAt (ReadsPool (before_of context.now)) (map items_of words.now) at result }
+pub fn pool_at(context: &Context, words: &[Vec<u8>], at: usize) -> Result<u16, Refusal>
+    ensures { WordAt (ReadsPool (context_of context.now)) (map items_of words.now) at result }
 {
     let Some(pool) = pool_of(word_at(words, at)?) else {
-        return Err(Fault::Spelling);
+        return Err(Refusal::Spelling);
     };
     if pool < context.pools {
         Ok(pool)
     } else {
-        Err(Fault::UnknownPool)
+        Err(Refusal::UnknownPool)
     }
 }
 
 /// The next pool, at this place.
-pub fn next_pool_at(context: &Context, words: &[Vec<u8>], at: usize) -> Result<u16, Fault>
-    ensures { WordAt (ReadsNextPool (before_of context.now)) (map items_of words.now) at result }
+pub fn next_pool_at(context: &Context, words: &[Vec<u8>], at: usize) -> Result<u16, Refusal>
+    ensures { WordAt (ReadsNextPool (context_of context.now)) (map items_of words.now) at result }
 {
     let word = word_at(words, at)?;
-    if 8 <= context.pools {
-        return Err(Fault::TooMany);
+    if MOST_POOLS <= context.pools {
+        return Err(Refusal::TooMany);
     }
     let Some(pool) = pool_of(word) else {
-        return Err(Fault::Spelling);
+        return Err(Refusal::Spelling);
     };
     if pool == context.pools {
         Ok(pool)
     } else {
-        Err(Fault::PoolOrder)
+        Err(Refusal::PoolOrder)
     }
 }
 
 /// The name that is bound here, at this place.
-pub fn new_name_at(context: &Context, words: &[Vec<u8>], at: usize) -> Result<BoundName, Fault>
-    ensures { WordAt (ReadsNewName (before_of context.now)) (map items_of words.now) at result }
+pub fn new_name_at(context: &Context, words: &[Vec<u8>], at: usize) -> Result<BoundName, Refusal>
+    ensures { WordAt (ReadsNewName (context_of context.now)) (map items_of words.now) at result }
 {
     let Some(name) = read_bound_name(word_at(words, at)?) else {
-        return Err(Fault::Spelling);
+        return Err(Refusal::Spelling);
     };
     if context.has_bound(&name) {
-        Err(Fault::BoundBefore)
+        Err(Refusal::BoundBefore)
     } else {
         Ok(name)
     }
 }
 
 /// The size at this place, where sizes above the small ones are served or not.
-pub fn size_at(all: bool, words: &[Vec<u8>], at: usize) -> Result<u64, Fault>
+pub fn size_at(all: bool, words: &[Vec<u8>], at: usize) -> Result<u64, Refusal>
     ensures { WordAt (ReadsSize all) (map items_of words.now) at result }
 {
     let size = number_in(0, u64::MAX, word_at(words, at)?)?;
     if all || size <= 8128 {
         Ok(size)
     } else {
-        Err(Fault::NotServed)
+        Err(Refusal::NotServed)
     }
 }
 
 /// The thread at this place.
-pub fn thread_at(context: &Context, words: &[Vec<u8>], at: usize) -> Result<u8, Fault>
-    ensures { WordAt (ReadsThread (before_of context.now)) (map items_of words.now) at result }
+pub fn thread_at(context: &Context, words: &[Vec<u8>], at: usize) -> Result<u8, Refusal>
+    ensures { WordAt (ReadsThread (context_of context.now)) (map items_of words.now) at result }
 {
     let word = word_at(words, at)?;
     if !is_thread_name(word) {
-        return Err(Fault::Spelling);
+        return Err(Refusal::Spelling);
     }
     match context.position(word) {
         Some(thread) => Ok(thread),
-        None => Err(Fault::UnknownThread),
+        None => Err(Refusal::UnknownThread),
     }
 }
 
@@ -183,7 +184,7 @@ fn read_pair(text: &[u8]) -> Option<(u32, u64)>
     let Some((front, rest)) = parted_at_plus(text) else {
         return None;
     };
-    let Ok(region) = number_in(0, 4194303, front) else {
+    let Ok(region) = number_in(0, REGION_NUMBERS - 1, front) else {
         return None;
     };
     let Some(offset) = read_number(rest) else {
@@ -202,7 +203,9 @@ fn read_place(word: &[u8]) -> Option<Place>
     if *letter != b'P' || *digit < b'0' || b'8' <= *digit || *dot != b'.' || *mark != b'R' {
         return None;
     }
-    let (region, offset) = read_pair(rest)?;
+    let Some((region, offset)) = read_pair(rest) else {
+        return None;
+    };
     Some(Place {
         pool: u16::from(*digit - b'0'),
         region,
@@ -211,8 +214,8 @@ fn read_place(word: &[u8]) -> Option<Place>
 }
 
 /// What the word stands for.
-fn read_what(context: &Context, word: &[u8]) -> Result<What, Fault>
-    ensures { ReadsWhat (before_of context.now) word.now result }
+fn read_what(context: &Context, word: &[u8]) -> Result<What, Refusal>
+    ensures { ReadsWhat (context_of context.now) word.now result }
 {
     if is_same(word, b"null") {
         return Ok(What::Null);
@@ -221,28 +224,28 @@ fn read_what(context: &Context, word: &[u8]) -> Result<What, Fault>
         return if context.has_bound(&name) {
             Ok(What::Name(name))
         } else {
-            Err(Fault::UnboundName)
+            Err(Refusal::UnboundName)
         };
     }
     match read_place(word) {
         Some(place) => Ok(What::Place(place)),
-        None => Err(Fault::Spelling),
+        None => Err(Refusal::Spelling),
     }
 }
 
 /// What the word at this place stands for.
-pub fn what_at(context: &Context, words: &[Vec<u8>], at: usize) -> Result<What, Fault>
-    ensures { WordAt (ReadsWhat (before_of context.now)) (map items_of words.now) at result }
+pub fn what_at(context: &Context, words: &[Vec<u8>], at: usize) -> Result<What, Refusal>
+    ensures { WordAt (ReadsWhat (context_of context.now)) (map items_of words.now) at result }
 {
     read_what(context, word_at(words, at)?)
 }
 
 /// Nothing stands at this place or behind it.
-pub fn end_at(words: &[Vec<u8>], at: usize) -> Result<(), Fault>
-    ensures { MatchResult result (λ _. length words.now ≤ at) (λ fault. (fault ≡ Fault.Spelling) × (at < length words.now)) }
+pub fn end_at(words: &[Vec<u8>], at: usize) -> Result<(), Refusal>
+    ensures { MatchResult result (λ _. length words.now ≤ at) (λ refusal. (refusal ≡ Refusal.Spelling) × (at < length words.now)) }
 {
     if at < words.len() {
-        Err(Fault::Spelling)
+        Err(Refusal::Spelling)
     } else {
         Ok(())
     }

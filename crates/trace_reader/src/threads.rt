@@ -2,15 +2,18 @@
 ghost use Rattle.std.specs.Prelude.{◌≡◌, ◌≢◌, ◌<◌, ◌≤◌, ℕ, [], true, false, map, drop, length, slice_get, Some};
 ghost use Rattle.trace_reader.specs.Words.{items_of};
 ghost use Rattle.trace_reader.specs.Acts.{AreThreadNames, IsNameJudged, KeywordLine, ReadsNames};
-ghost use Rattle.trace_reader.specs.Contexts.{before_of, name_bytes};
+ghost use Rattle.pool_types.specs.Texts.{name_bytes};
+ghost use Rattle.trace_reader.specs.Contexts.{context_of};
 ghost use Rattle.trace_reader.specs.declared.keywords.Keyword.TheVariants.{ThreadsWord};
 
 use crate::acts::Act;
-use crate::before::Context;
-use crate::names::{ThreadName, is_thread_name, read_thread_name};
-use crate::refusal::Fault;
+use crate::context::Context;
+use crate::names::{is_thread_name, read_thread_name};
+use crate::refusal::Refusal;
 use crate::words::is_same;
 use arrayvec::ArrayVec;
+use pool_types::ThreadName;
+use pool_types::limits::MOST_THREADS;
 
 /// Whether the word stands among these.
 fn is_among(words: &[Vec<u8>], word: &[u8]) -> bool
@@ -26,54 +29,54 @@ fn is_among(words: &[Vec<u8>], word: &[u8]) -> bool
 }
 
 /// Whether the word may stand as a name behind these.
-fn judge_name(more: bool, had: &[Vec<u8>], word: &[u8]) -> Result<(), Fault>
+fn judge_name(more: bool, had: &[Vec<u8>], word: &[u8]) -> Result<(), Refusal>
     ensures { IsNameJudged more (map items_of had.now) word.now result }
 {
     if !had.is_empty() && !more {
-        return Err(Fault::NotServed);
+        return Err(Refusal::NotServed);
     }
-    if 64 <= had.len() {
-        return Err(Fault::TooMany);
+    if MOST_THREADS <= had.len() {
+        return Err(Refusal::TooMany);
     }
     if !is_thread_name(word) {
-        return Err(Fault::Spelling);
+        return Err(Refusal::Spelling);
     }
     if is_among(had, word) {
-        return Err(Fault::ThreadsAgain);
+        return Err(Refusal::ThreadsAgain);
     }
     Ok(())
 }
 
 /// A line of these names.
-fn names_line(more: bool, names: &[Vec<u8>]) -> Result<Act, Fault>
+fn names_line(more: bool, names: &[Vec<u8>]) -> Result<Act, Refusal>
     ensures { ReadsNames more [] (map items_of names.now) result }
 {
     for (i, name) in names.iter().enumerate() {
         judge_name(more, &names[..i], name.as_slice())?;
     }
     if names.is_empty() {
-        return Err(Fault::Spelling);
+        return Err(Refusal::Spelling);
     }
     Ok(Act::Threads)
 }
 
 /// A line that names the threads.
-pub fn threads_line(more: bool, context: &Context, words: &[Vec<u8>]) -> Result<Act, Fault>
+pub fn threads_line(more: bool, context: &Context, words: &[Vec<u8>]) -> Result<Act, Refusal>
     requires { 0 < length words.now }
-    ensures { KeywordLine more (before_of context.now) ThreadsWord (map items_of words.now) result }
+    ensures { KeywordLine more (context_of context.now) ThreadsWord (map items_of words.now) result }
 {
     if !context.names.is_empty() || context.pools != 0 {
-        return Err(Fault::ThreadsAgain);
+        return Err(Refusal::ThreadsAgain);
     }
     names_line(more, &words[1..])
 }
 
 /// The names that the words spell.
-pub fn thread_names(words: &[Vec<u8>]) -> ArrayVec<ThreadName, 64>
+pub fn thread_names(words: &[Vec<u8>]) -> ArrayVec<ThreadName, MOST_THREADS>
     requires { AreThreadNames (map items_of words.now) }
     ensures { map name_bytes result.items ≡ map items_of words.now }
 {
-    let mut names: ArrayVec<ThreadName, 64> = ArrayVec::new();
+    let mut names: ArrayVec<ThreadName, MOST_THREADS> = ArrayVec::new();
     for word in words {
         let Some(name) = read_thread_name(word.as_slice()) else {
             unreachable!();

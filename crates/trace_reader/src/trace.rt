@@ -1,24 +1,24 @@
 //! Reads a whole trace.
 ghost use Rattle.std.specs.Prelude.{◌≡◌, ◌<◌, ◌≤◌, ◌+◌, ◌^◌, ℕ, List, map, length, IfOk, true, false};
 ghost use Rattle.trace_reader.specs.Words.{items_of};
-ghost use Rattle.trace_reader.specs.Contexts.{before_of};
-ghost use Rattle.trace_reader.specs.Text.{ReadsLine, ReadsOne, ReadsTrace, is_skipped};
+ghost use Rattle.trace_reader.specs.Contexts.{context_of};
+ghost use Rattle.trace_reader.specs.Text.{ReadsLine, ReadsTrace, is_skipped};
 ghost use Rattle.trace_reader.specs.Steps.{AddsLine, AreReadAs};
-ghost use Rattle.trace_reader.specs.Served.{BindsInTurn, NumbersLines, ServesReplays};
 
 use crate::acts::{Act, Forms, TraceLine};
-use crate::before::Context;
+use crate::context::Context;
 use crate::line::read_words;
-use crate::names::ThreadName;
-use crate::refusal::{Fault, TraceError, TraceRefused};
+use crate::refusal::{Refusal, TraceError, TraceRefused};
 use crate::words::split_parts;
 use arrayvec::ArrayVec;
+use pool_types::limits::{MOST_LINE_BYTES, MOST_LINES, MOST_THREADS};
+use pool_types::{ThreadName, Threads};
 use std::alloc::{AllocError, Global};
 
 /// A trace that was read: the names of its threads, in their order, and what its lines do.
 #[derive(Drop)]
 pub struct Trace {
-    pub names: ArrayVec<ThreadName, 64>,
+    pub names: ArrayVec<ThreadName, MOST_THREADS>,
     pub lines: Vec<TraceLine>,
 }
 
@@ -38,8 +38,18 @@ impl Trace {
     }
 }
 
+impl Threads for Trace {
+    ghost use Rattle.pool_types.specs.Texts.{names_of};
+
+    ghost names = { λ trace. names_of trace.names.items };
+
+    fn threads(&self) -> &[ThreadName] {
+        self.names.as_slice()
+    }
+}
+
 /// Whether the line is empty or begins with `#`.
-fn is_to_skip(text: &[u8]) -> bool
+fn is_skipped(text: &[u8]) -> bool
     ensures { result ≡ is_skipped text.now }
 {
     match text {
@@ -63,17 +73,17 @@ impl Reading {
         forms: Forms,
         number: u32,
         text: &[u8],
-    ) -> Result<Option<Fault>, AllocError>
-        ensures { IfOk result (λ refused. AddsLine forms number text.now (before_of self.old.context) self.old.lines.items refused
-            (before_of self.new.context) self.new.lines.items) }
+    ) -> Result<Option<Refusal>, AllocError>
+        ensures { IfOk result (λ refused. AddsLine forms number text.now (context_of self.old.context) self.old.lines.items refused
+            (context_of self.new.context) self.new.lines.items) }
     {
-        if 1024 < text.len() {
-            return Ok(Some(Fault::TooLong));
+        if MOST_LINE_BYTES < text.len() {
+            return Ok(Some(Refusal::TooLong));
         }
-        if 65536 < number {
-            return Ok(Some(Fault::TooMany));
+        if MOST_LINES < number {
+            return Ok(Some(Refusal::TooMany));
         }
-        if is_to_skip(text) {
+        if is_skipped(text) {
             return Ok(None);
         }
         let words = split_parts(alloc, b' ', text)?;
@@ -83,14 +93,14 @@ impl Reading {
                 self.lines.push(TraceLine { line: number, act })?;
                 Ok(None)
             }
-            Err(fault) => Ok(Some(fault)),
+            Err(refusal) => Ok(Some(refusal)),
         }
     }
 }
 
 impl Reading {
     /// What was read.
-    fn finished(self) -> Trace
+    fn into_trace(self) -> Trace
         ensures { (result.names ≡ self.context.names) × (result.lines ≡ self.lines) }
     {
         let Reading { context, lines } = self;
@@ -105,7 +115,7 @@ impl Reading {
 #[derive(Drop)]
 enum Outcome {
     AllRead(Trace),
-    FirstRefused(u32, Fault),
+    FirstRefused(u32, Refusal),
 }
 
 /// Reads lines one after another, and then what stands behind the last newline.
@@ -123,14 +133,14 @@ fn read_texts(
     };
     for (i, text) in texts.iter().enumerate() {
         let number = i as u32 + 1;
-        if let Some(fault) = reading.add(alloc, forms, number, text.as_slice())? {
-            return Ok(Outcome::FirstRefused(number, fault));
+        if let Some(refusal) = reading.add(alloc, forms, number, text.as_slice())? {
+            return Ok(Outcome::FirstRefused(number, refusal));
         }
     }
     if !last.is_empty() {
-        return Ok(Outcome::FirstRefused(texts.len() as u32 + 1, Fault::NoNewline));
+        return Ok(Outcome::FirstRefused(texts.len() as u32 + 1, Refusal::NoNewline));
     }
-    Ok(Outcome::AllRead(reading.finished()))
+    Ok(Outcome::AllRead(reading.into_trace()))
 }
 
 /// Reads a whole trace, of the forms that are served. Bad is its first refused line, with the first kind of what is
@@ -144,36 +154,12 @@ pub fn read_trace(alloc: Global, bytes: &[u8], forms: Forms) -> Result<Trace, Tr
     };
     match read_texts(alloc, forms, texts.as_slice(), last.as_slice())? {
         Outcome::AllRead(trace) => Ok(trace),
-        Outcome::FirstRefused(line, fault) => Err(TraceRefused::Bad(TraceError {
+        Outcome::FirstRefused(line, refusal) => Err(TraceRefused::Bad(TraceError {
             line,
-            kind: fault.kind(),
+            kind: refusal.kind(),
         })),
     }
 }
-
-/// The law of the traces: a text is read as one thing only. So it spells one trace at most, and none where a line of it is
-/// refused, and one line is refused at most, with one kind. What `read_trace` answers is settled by the bytes and the
-/// forms, but for memory.
-pub fn traces_are_clear()
-    ensures { ReadsOne }
-{}
-
-/// The law of the traces that a replay serves: no line, the line that names the one thread, or the line `pool P0 fixed`; or
-/// the one, then the other, and then calls that are served, each whole, by that thread on that pool.
-pub fn replays_have_one_shape()
-    ensures { ServesReplays }
-{}
-
-/// The law of the numbers of lines: they grow, from 1 to at most 65536, so no two are equal, and there are at most 65536.
-pub fn lines_are_numbered()
-    ensures { NumbersLines }
-{}
-
-/// The law of the names that a trace binds: each name that a call is asked of was bound by an earlier line, and no line
-/// binds a name that an earlier one bound.
-pub fn names_are_bound_in_turn()
-    ensures { BindsInTurn }
-{}
 
 #[cfg(test)]
 mod tests;

@@ -1,5 +1,5 @@
 use super::*;
-use crate::holders::Kind;
+use crate::holders::HolderKind;
 use crate::laws;
 use crate::moves::Range;
 use arrayvec::ArrayVec;
@@ -147,7 +147,7 @@ fn the_first_byte_in_the_way_is_told(rt: HostRuntime) {
             BIN,
         ),
         (
-            "from a run's middle",
+            "from a stretch's middle",
             0,
             in_bin,
             part(place(7, border + 5), 8, BIN, HAND),
@@ -482,16 +482,16 @@ fn bytes_past_the_counters_are_not_counted(rt: HostRuntime) {
 
 #[test]
 fn a_holder_is_of_its_kind(rt: HostRuntime) {
-    assert!(rt; Holder::Hand(3).is(Kind::Hand));
-    assert!(rt; !Holder::Hand(3).is(Kind::Bin));
+    assert!(rt; Holder::Hand(3).is(HolderKind::Hand));
+    assert!(rt; !Holder::Hand(3).is(HolderKind::Bin));
 }
 
 #[test]
 fn the_laws_are_called() {
-    laws::answers_once();
-    laws::keeps_one_holder();
-    laws::moves_commute();
-    laws::totals_follow();
-    laws::regions_follow();
+    laws::moves_answer_once();
+    laws::moves_keep_one_holder();
+    laws::apart_moves_commute();
+    laws::totals_follow_moves();
+    laws::regions_follow_moves();
     laws::totals_sum();
 }

@@ -1,5 +1,5 @@
-use Rattle.cache_ages.proofs.StepLemmas.{taken_again}
+use Rattle.cache_ages.proofs.StepLemmas.{get_takes_what_was_put}
 use Rattle.cache_ages.proofs.laws.get_takes_what_was_put.Goals as goal
 
 pub returns : goal.returns
-returns c = taken_again
+returns c = get_takes_what_was_put

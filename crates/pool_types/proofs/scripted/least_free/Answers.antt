@@ -1,7 +1,7 @@
 -- The search passes over no base that is free.
 use Rattle.std.proofs.Common.{arith, sym, refl, ◌<◌, ◌+◌}
-use Rattle.pool_types.proofs.Bases.{find-passes, find-none, meets-behind, tried-past, none-behind, at_base}
-use Rattle.pool_types.specs.Regions.{meets}
+use Rattle.pool_types.proofs.Bases.{find-passes, find-none, overlaps-behind, tried-past, none-behind, at_base}
+use Rattle.pool_types.specs.Regions.{overlaps}
 use Rattle.pool_types.proofs.scripted.least_free.Goals as goal
 
 pub returns-in_default-clause-some : goal.returns-in_default-clause-some
@@ -10,7 +10,7 @@ returns-in_default-clause-some c = record {
   least = record {
     steps = c.loop-base.invariant.steps;
     multiple = c.loop-base.invariant.multiple;
-    free = find-none (λ one. meets one (at_base c.args.bytes c.loop-base.base)) c.args.out.now (sym c.in_default.ensures);
+    free = find-none (λ one. overlaps one (at_base c.args.bytes c.loop-base.base)) c.args.out.now (sym c.in_default.ensures);
     least = c.loop-base.invariant.tried;
   };
   ends = omega arith;
@@ -21,7 +21,7 @@ returns-in_default-step_from-clause-none c = λ region. none-behind c.args.out.n
 
 pub loop-base-smaller : goal.loop-base-smaller
 loop-base-smaller c =
-    let grows : c.loop-base.base < c.in-Some.met.base + c.in-Some.met.bytes = meets-behind c.in-Some.met c.args.bytes c.loop-base.base (find-passes (λ one. meets one (at_base c.args.bytes c.loop-base.base)) c.args.out.now c.in-Some.met (sym c.in-Some.ensures)) in
+    let grows : c.loop-base.base < c.in-Some.met.base + c.in-Some.met.bytes = overlaps-behind c.in-Some.met c.args.bytes c.loop-base.base (find-passes (λ one. overlaps one (at_base c.args.bytes c.loop-base.base)) c.args.out.now c.in-Some.met (sym c.in-Some.ensures)) in
     omega (arith, c.in-Some-step_from.ensures.some.2, c.loop-base-test.true)
 
 pub loop-base-preserved : goal.loop-base-preserved

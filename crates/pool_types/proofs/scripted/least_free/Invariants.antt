@@ -1,4 +1,4 @@
--- The base is a multiple, and each multiple before it meets a region.
+-- The base is a multiple, and each multiple before it overlaps a region.
 use Rattle.std.proofs.Common.{◌-◌, ◌^◌}
 use Rattle.pool_types.proofs.Bases.{IsTried}
 use Rattle.pool_types.proofs.scripted.least_free.Given as goal

@@ -8,6 +8,6 @@ use Rattle.poolreplay.proofs.replay.reply_to.Goals as goal
 
 pub returns-in-Err-Bad : goal.returns-in-Err-Bad
 returns-in-Err-Bad c =
-    refused_reply c.args.bytes.now c.in-Err-Bad.error c.refused.result _ _
+    refused_reply c.args.bytes.now c.in-Err-Bad.error c.refused_text.result _ _
     (subst (λ (refusal : TraceRefused). ReadsTrace forms.Replay c.args.bytes.now (Err refusal)) c.in-Err-Bad.field-0-is c.in-Err-Bad.ensures)
-    c.refused.ensures c.spoken.ensures.ok c.spoken.ensures.err
+    c.refused_text.ensures c.spoken.ensures.ok c.spoken.ensures.err

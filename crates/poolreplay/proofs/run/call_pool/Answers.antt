@@ -5,4 +5,4 @@ use Rattle.plain_pool.specs.Pool.{Stands}
 use Rattle.poolreplay.proofs.run.call_pool.Goals as goal
 
 pub returns-clause-pool : goal.returns-clause-pool
-returns-clause-pool c = λ lists stands. subst (λ (request : Request). Stands c.call-answer.new.self (whole lists request).lists) c.asked.ensures (c.call-answer.ensures.lists lists stands)
+returns-clause-pool c = λ lists stands. subst (λ (request : Request). Stands c.call-answer.new.self (whole lists request).lists) c.request_of.ensures (c.call-answer.ensures.lists lists stands)

@@ -1,5 +1,5 @@
 use Rattle.std.proofs.Common.{◌≡◌, take}
-use Rattle.report_text.specs.Pieces.{names_of}
+use Rattle.pool_types.specs.Texts.{names_of}
 use Rattle.report_text.proofs.report.duplicate_all.Given as goal
 
 abbrev pub invariant-loop-name : goal.invariant-loop-name

@@ -2,20 +2,20 @@ use Rattle.std.proofs.Common.{◌%◌, ◌≡◌, ◌≤◌, refl, true, false, 
 use Rattle.size_classes.specs.Classes.{class_size}
 use Rattle.size_classes.specs.Served.{small_or, large_at, IfSmall}
 use Rattle.size_classes.proofs.Powers.{power-positive}
-use Rattle.size_classes.proofs.Serving.{small_or-if, served_at-bad, served_at-well_formed, aligned_class-fits, aligned_class-multiple}
+use Rattle.size_classes.proofs.Serving.{small_or-if, served-bad, served-well_formed, aligned_class-fits, aligned_class-multiple}
 use Rattle.size_classes.proofs.request.served.Goals as goal
 
 pub returns-then-not-is_well_formed-clause-exact :
     goal.returns-then-not-is_well_formed-clause-exact
 returns-then-not-is_well_formed-clause-exact c =
-    sym (served_at-bad c.args.size c.args.alignment (λ some power. let never : false ≡ true = c.if-not-is_well_formed.ensures.1 (some, power) in cc))
+    sym (served-bad c.args.size c.args.alignment (λ some power. let never : false ≡ true = c.if-not-is_well_formed.ensures.1 (some, power) in cc))
 
 pub returns-clause-exact : goal.returns-clause-exact
 returns-clause-exact c =
     let asked = c.if-not-is_well_formed.ensures.0 refl in
     c.small_or_large.ensures
     ∙ ap₂ (λ class alignment. small_or class (large_at c.args.size alignment)) c.aligned_class.ensures (omega (arith, c.max.ensures))
-    ∙ sym (served_at-well_formed c.args.size c.args.alignment asked.0 asked.1)
+    ∙ sym (served-well_formed c.args.size c.args.alignment asked.0 asked.1)
 
 pub returns-clause-fits : goal.returns-clause-fits
 returns-clause-fits c =

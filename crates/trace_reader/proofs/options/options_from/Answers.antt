@@ -18,21 +18,21 @@ returns-in_err-option c =
     (words_from c.args.words.now c.loop-i.i c.index-words-i.result c.as_slice.result.now c.loop-i-test.true c.as_slice.ensures.value c.index-words-i.is) c.in_err-option.ensures) in
     search (rules, refused)
 
-pub returns-then-is_among : goal.returns-then-is_among
-returns-then-is_among c =
-    let twice : has_option c.loop-i.options.items c.in_ok-option.option ≡ true = ap (λ (had : List PoolOption). has_option had c.in_ok-option.option) (sym c.as_slice-in-loop-i.ensures.value) ∙ sym c.if-is_among.ensures in
+pub returns-then-has_option : goal.returns-then-has_option
+returns-then-has_option c =
+    let twice : has_option c.loop-i.options.items c.in_ok-option.option ≡ true = ap (λ (had : List PoolOption). has_option had c.in_ok-option.option) (sym c.as_slice-in-loop-i.ensures.value) ∙ sym c.if-has_option.ensures in
     c.loop-i.invariant.among _ (option_twice c.loop-i.options.items (drop c.loop-i.i (map items_of c.args.words.now)) (drop (c.loop-i.i + 1) (map items_of c.args.words.now)) c.as_slice.result.now c.in_ok-option.option
     (words_from c.args.words.now c.loop-i.i c.index-words-i.result c.as_slice.result.now c.loop-i-test.true c.as_slice.ensures.value c.index-words-i.is) c.in_ok-option.ensures twice)
 
 pub push-requires : goal.push-requires
 push-requires c =
-    let new : has_option c.loop-i.options.items c.in_ok-option.option ≡ false = ap (λ (had : List PoolOption). has_option had c.in_ok-option.option) (sym c.as_slice-in-loop-i.ensures.value) ∙ sym c.if-is_among.ensures in
+    let new : has_option c.loop-i.options.items c.in_ok-option.option ≡ false = ap (λ (had : List PoolOption). has_option had c.in_ok-option.option) (sym c.as_slice-in-loop-i.ensures.value) ∙ sym c.if-has_option.ensures in
     let room : length c.loop-i.options.items < 9 = room_for c.loop-i.options.items c.in_ok-option.option c.loop-i.invariant.apart new in
     (omega arith, room)
 
 pub loop-i-preserved : goal.loop-i-preserved
 loop-i-preserved c =
-    let new : has_option c.loop-i.options.items c.in_ok-option.option ≡ false = ap (λ (had : List PoolOption). has_option had c.in_ok-option.option) (sym c.as_slice-in-loop-i.ensures.value) ∙ sym c.if-is_among.ensures in
+    let new : has_option c.loop-i.options.items c.in_ok-option.option ≡ false = ap (λ (had : List PoolOption). has_option had c.in_ok-option.option) (sym c.as_slice-in-loop-i.ensures.value) ∙ sym c.if-has_option.ensures in
     record {
       among = λ result reads. c.loop-i.invariant.among result (option_more c.loop-i.options.items c.push.new.self.items (drop c.loop-i.i (map items_of c.args.words.now)) (drop (c.loop-i.i + 1) (map items_of c.args.words.now)) c.as_slice.result.now c.in_ok-option.option result
           (words_from c.args.words.now c.loop-i.i c.index-words-i.result c.as_slice.result.now c.loop-i-test.true c.as_slice.ensures.value c.index-words-i.is) c.in_ok-option.ensures new c.push.ensures.items reads);

@@ -1,6 +1,6 @@
 use Rattle.std.proofs.Common.{◌≡◌, take, map}
 use Rattle.trace_reader.specs.Words.{items_of}
-use Rattle.trace_reader.specs.Contexts.{name_bytes}
+use Rattle.pool_types.specs.Texts.{name_bytes}
 use Rattle.trace_reader.proofs.threads.thread_names.Given as goal
 
 abbrev pub invariant-loop-word : goal.invariant-loop-word

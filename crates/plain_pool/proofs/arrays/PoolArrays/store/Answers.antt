@@ -4,7 +4,7 @@ use Rattle.plain_pool.specs.declared.arrays.PoolArrays.{PoolArrays}
 use Rattle.plain_pool.specs.Bins.{AreBins}
 use Rattle.plain_pool.specs.Slabs.{AreSlabs}
 use Rattle.plain_pool.specs.Pool.{Has}
-use Rattle.plain_pool.proofs.BinLemmas.{true_eq}
+use Rattle.std.proofs.lemmas.Bool.{eqb-true}
 use Rattle.plain_pool.proofs.arrays.PoolArrays.store.Goals as goal
 
 -- the pool once the slab was pushed
@@ -23,10 +23,10 @@ trim-requires c = let (lists, has, stored, few) = c.requires in (
   record lists { stored = lists.stored ++ c.args.index ∷ [] },
   pushed c.args.self.now (record c.args.self.now { stored = c.push.new.self }) lists c.args.index has refl refl refl refl c.push.ensures.items,
   stored,
-  sym (ap length (c.push.ensures.items ∙ ap (λ xs. xs ++ c.args.index ∷ []) has.stored)) ∙ true_eq (length c.push.new.self.items) 33 (sym c.is_full.ensures.value ∙ c.if-is_full.true),
+  sym (ap length (c.push.ensures.items ∙ ap (λ xs. xs ++ c.args.index ∷ []) has.stored)) ∙ eqb-true (length c.push.new.self.items) 33 (sym c.is_full.ensures.value ∙ c.if-is_full.true),
 )
 
 pub returns-then-is_full : goal.returns-then-is_full
 returns-then-is_full c lists has stored few =
     c.trim.ensures (record lists { stored = lists.stored ++ c.args.index ∷ [] }) (pushed c.args.self.now (record c.args.self.now { stored = c.push.new.self }) lists c.args.index has refl refl refl refl c.push.ensures.items) stored
-    (sym (ap length (c.push.ensures.items ∙ ap (λ xs. xs ++ c.args.index ∷ []) has.stored)) ∙ true_eq (length c.push.new.self.items) 33 (sym c.is_full.ensures.value ∙ c.if-is_full.true))
+    (sym (ap length (c.push.ensures.items ∙ ap (λ xs. xs ++ c.args.index ∷ []) has.stored)) ∙ eqb-true (length c.push.new.self.items) 33 (sym c.is_full.ensures.value ∙ c.if-is_full.true))

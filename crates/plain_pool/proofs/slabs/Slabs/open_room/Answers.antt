@@ -1,7 +1,7 @@
 use Rattle.std.proofs.Common.{◌≡◌, ◌<◌, ◌+◌, ◌==◌, ◌/◌, refl, ℕ, List, drop, find, filter, length, slice_get, sym, subst, ap, ◌∙◌, arith}
 use Rattle.std.proofs.lemmas.List.{length-map}
 use Rattle.index_lists.specs.Lists.{members}
-use Rattle.index_lists.proofs.Listed.{in_some}
+use Rattle.index_lists.proofs.CallerLemmas.{in_some}
 use Rattle.plain_lists.specs.Lists.{OwnSlab, has_free}
 use Rattle.plain_pool.specs.declared.slabs.Slabs.{Slabs}
 use Rattle.plain_pool.specs.Slabs.{AreSlabs, rooms_of, room_of}

@@ -2,7 +2,7 @@ use Rattle.std.proofs.Common.{◌≡◌, ◌<◌, ◌≤◌, ◌*◌, Some, leng
 use Rattle.slab_core.specs.declared.SlabRec.{SlabRec}
 use Rattle.slab_core.specs.Slabs.{IsValid, after_free}
 use Rattle.plain_lists.specs.Lists.{taken_back}
-use Rattle.plain_lists.proofs.Gets.{slice_get-inside}
+use Rattle.std.proofs.lemmas.Option.{slice_get_within}
 use Rattle.plain_lists.proofs.Rooms.{Some-same}
 use Rattle.plain_pool.specs.Slabs.{record_of, unit_at}
 use Rattle.plain_pool.proofs.SlabCalls.{read_room, record_valid, some_held, record_back, unused_is, back_fit}
@@ -25,7 +25,7 @@ free-requires-clause-held c = let (slabs, slab, number, fit, kept, is, held) = c
 pub free-requires-clause-handed : goal.free-requires-clause-handed
 free-requires-clause-handed c = let (slabs, slab, number, fit, kept, is, held) = c.requires in
     let same = Some-same c.in-Some.slab (record_of slab) (sym c.in-Some.is ∙ read_room c.args.self.now.rooms.items c.args.self.now.classes c.args.self.now.marks.items slabs c.args.room slab c.index.result.now fit kept.placed is c.index.ensures) in
-    subst (λ (r : SlabRec). c.args.object < r.handed) (sym same) (slice_get-inside slab.objects c.args.object (Some number) held)
+    subst (λ (r : SlabRec). c.args.object < r.handed) (sym same) (slice_get_within slab.objects c.args.object (Some number) held)
 
 pub returns-clause-unused : goal.returns-clause-unused
 returns-clause-unused c slabs slab number fit kept is held =

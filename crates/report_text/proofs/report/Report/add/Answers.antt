@@ -1,5 +1,5 @@
 use Rattle.std.proofs.Common.{rules}
-use Rattle.report_text.specs.Pieces.{names_of}
+use Rattle.pool_types.specs.Texts.{names_of}
 use Rattle.report_text.proofs.EntryLemmas.{entries_text-added}
 use Rattle.report_text.proofs.report.Report.add.Goals as goal
 

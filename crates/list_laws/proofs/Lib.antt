@@ -1,0 +1,5 @@
+pub mod Members
+pub mod Counts
+pub mod Gets
+pub mod Finds
+pub mod Sums

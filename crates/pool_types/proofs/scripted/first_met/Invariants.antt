@@ -1,9 +1,0 @@
--- What is sought is found among the regions that are left.
-use Rattle.std.proofs.Common.{◌≡◌, drop}
-use Rattle.std.specs.Prelude.{find}
-use Rattle.pool_types.specs.declared.values.Region.{Region}
-use Rattle.pool_types.specs.Regions.{meets}
-use Rattle.pool_types.proofs.scripted.first_met.Given as goal
-
-abbrev pub invariant-loop-one : goal.invariant-loop-one
-invariant-loop-one l = find {X = Region} (λ one. meets one l.wanted) l.out ≡ find {X = Region} (λ one. meets one l.wanted) (drop l.one-index l.out)
