@@ -1,0 +1,4 @@
+pub mod CallerLemmas
+pub mod ReadBack
+pub mod Regions
+pub mod Sums

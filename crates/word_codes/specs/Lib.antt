@@ -1,0 +1,13 @@
+pub mod Guards
+pub mod Kinds
+pub mod Laws
+pub mod Links
+pub mod Locks
+pub mod Marks
+pub mod Nexts
+pub mod Owns
+pub mod Places
+pub mod Publics
+pub mod QueueLinks
+pub mod RegionWords
+pub mod Sums
