@@ -1,0 +1,3 @@
+pub mod Insert
+pub mod Locks
+pub mod Remove
