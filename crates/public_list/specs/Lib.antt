@@ -1,0 +1,4 @@
+pub mod Ending
+pub mod Joining
+pub mod Looking
+pub mod Posting
