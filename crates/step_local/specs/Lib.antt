@@ -1,0 +1,11 @@
+pub mod Frames
+pub mod Answers
+pub mod Leaving
+pub mod Slabs
+pub mod Large
+pub mod Backend
+pub mod Getting
+pub mod Objects
+pub mod Course
+pub mod Learn
+pub mod Rows
