@@ -1,0 +1,5 @@
+pub mod Rows
+pub mod Moves
+pub mod Placing
+pub mod Refuted
+pub mod CallerLemmas
