@@ -1,0 +1,6 @@
+pub mod Chains
+pub mod Pushing
+pub mod Seats
+pub mod Named
+pub mod Laws
+pub mod Wrong
