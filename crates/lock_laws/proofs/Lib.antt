@@ -1,0 +1,9 @@
+pub mod Locks
+pub mod Back
+pub mod Inserting
+pub mod Removing
+pub mod ListsInWords
+pub mod Runs
+pub mod Seats
+pub mod Examples
+pub mod CallerLemmas
