@@ -1,10 +1,9 @@
 #!/usr/bin/env python3
-"""Times the built program on traces of many calls, and prints lines a second and the peak memory.
+"""Times the built program on traces of many calls, and prints lines a second and the peak of the memory of each run.
 
 Run it at the top of the repository after .ci/run: python3 bench/replay.py [PROGRAM]
 """
 import os
-import resource
 import subprocess
 import sys
 import tempfile
@@ -46,18 +45,17 @@ def frees(most, held):
 
 
 def run(program, text):
-    """The seconds that the program takes on the trace, what it writes, and its peak memory so far in KiB."""
-    with tempfile.NamedTemporaryFile("w", delete=False) as file:
-        file.write(text)
-    try:
-        with open(file.name) as source:
-            start = time.perf_counter()
-            done = subprocess.run([program, "replay"], stdin=source, capture_output=True, text=True)
-            seconds = time.perf_counter() - start
-    finally:
-        os.unlink(file.name)
-    peak = resource.getrusage(resource.RUSAGE_CHILDREN).ru_maxrss
-    return seconds, done, peak
+    """The seconds that the program takes on the trace, its status, what it writes, and the peak of its memory in KiB."""
+    with tempfile.TemporaryFile("w+") as source:
+        source.write(text)
+        source.seek(0)
+        start = time.perf_counter()
+        with subprocess.Popen([program, "replay"], stdin=source, stdout=subprocess.PIPE, text=True) as process:
+            report = process.stdout.read()
+            _, status, usage = os.wait4(process.pid, 0)
+            process.returncode = os.waitstatus_to_exitcode(status)
+        seconds = time.perf_counter() - start
+    return seconds, process.returncode, report, usage.ru_maxrss
 
 
 def main():
@@ -70,9 +68,9 @@ def main():
         ("mallocs of 1 to 8128 and frees, a full pool", frees(8128, 20000)),
     ]
     for name, text in cases:
-        seconds, done, peak = run(program, text)
-        counts = ", ".join(f"{done.stdout.count(f' {word}')} {word}" for word in ("got", "null", "freed"))
-        print(f"{name}: status {done.returncode}, {counts}, {LINES / seconds:.0f} lines a second, peak {peak} KiB")
+        seconds, status, report, peak = run(program, text)
+        counts = ", ".join(f"{report.count(f' {word}')} {word}" for word in ("got", "null", "freed"))
+        print(f"{name}: status {status}, {counts}, {LINES / seconds:.0f} lines a second, peak {peak} KiB")
 
 
 if __name__ == "__main__":

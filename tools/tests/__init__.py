@@ -1,0 +1,1 @@
+"""The tools' tests: python3 -m unittest discover -s tools/tests -t tools."""
