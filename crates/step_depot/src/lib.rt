@@ -5,5 +5,7 @@
 #![tactic(auto)]
 
 mod depot;
+#[cfg(test)]
+mod tests;
 
 pub use depot::Depot;
