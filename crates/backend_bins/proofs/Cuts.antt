@@ -1,7 +1,7 @@
 -- The piece of a block that fits, and the block's rests.
 use Rattle.std.proofs.Common.{◌≡◌, ℕ, ◌+◌, ◌%◌, ◌^◌, ◌<◌, ◌≤◌, Bool, true, false, cond, leb, refl, arith}
 use Rattle.std.proofs.lemmas.Bool.Decides.{nat_tests}
-use Rattle.word_codes.specs.Sums.{capped}
+use Rattle.pool_types.specs.Sums.{capped}
 use Rattle.backend_bins.specs.declared.blocks.Want.{Want}
 use Rattle.backend_bins.specs.Blocks.{block, first_skipped, piece_of}
 use Rattle.backend_bins.specs.Laws.{IsCut, PiecesAreCut, cut_of}

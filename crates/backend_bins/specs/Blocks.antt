@@ -1,7 +1,7 @@
 -- Blocks of granules, the bins that they are in, and the pieces that are wanted of them.
 use Rattle.std.specs.Prelude.{ℕ, ◌+◌, ◌-◌, ◌%◌, min, Bool, cond, leb}
 use Rattle.pool_types.specs.Geometry.{bin_count}
-use Rattle.word_codes.specs.Sums.{capped}
+use Rattle.pool_types.specs.Sums.{capped}
 use Rattle.backend_bins.specs.declared.blocks.Block.{Block}
 use Rattle.backend_bins.specs.declared.blocks.Want.{Want}
 

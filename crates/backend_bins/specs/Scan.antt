@@ -6,7 +6,7 @@ use Rattle.pool_words.specs.declared.actions.Action.TheVariants.{Load}
 use Rattle.word_codes.specs.declared.guards.Guard.{Guard}
 use Rattle.word_codes.specs.Guards.{guard_of}
 use Rattle.word_codes.specs.Links.{link_of}
-use Rattle.word_codes.specs.Sums.{capped}
+use Rattle.pool_types.specs.Sums.{capped}
 use Rattle.guards.specs.declared.win.Side.{Side}
 use Rattle.guards.specs.declared.win.Taking.{Taking}
 use Rattle.guards.specs.declared.win.WinCall.{WinCall}

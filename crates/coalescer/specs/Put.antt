@@ -7,7 +7,7 @@ use Rattle.word_codes.specs.declared.guards.Guard.{Guard}
 use Rattle.word_codes.specs.Guards.{guard_of, guard_word}
 use Rattle.word_codes.specs.Links.{link_of, link_word}
 use Rattle.word_codes.specs.QueueLinks.{queue_link_word}
-use Rattle.word_codes.specs.Sums.{capped}
+use Rattle.pool_types.specs.Sums.{capped}
 use Rattle.chain_words.specs.declared.pushing.PushAt.{PushAt}
 use Rattle.chain_words.specs.declared.pushing.PushCall.{PushCall}
 use Rattle.chain_words.specs.declared.pushing.PushNext.{PushNext}

@@ -13,7 +13,8 @@ use Rattle.slab_core.specs.Slabs.{IsNewest, IsUsedUp}
 use Rattle.slab_core.specs.Headers.{to_header as slab_to_header, head_word, object_in, record_in}
 use Rattle.slab_core.proofs.CallerLemmas.{HasRoom, has_room, record_in-header}
 use Rattle.heap_slabs.specs.declared.records.HeapSlab.{HeapSlab}
-use Rattle.heap_slabs.specs.Records.{capped, slab_start, unit_of, objects_from, head_field, head_in, to_header}
+use Rattle.pool_types.specs.Sums.{capped}
+use Rattle.heap_slabs.specs.Records.{slab_start, unit_of, objects_from, head_field, head_in, to_header}
 use Rattle.heap_slabs.specs.Records.{of_header}
 use Rattle.heap_slabs.specs.Laws.{unit_if, heap_slab, IsSlab, UnitsAreOffsets, TakesOne, TakesNone, TakesAsSlab}
 use Rattle.heap_slabs.specs.Laws.{TakesAsSlabs, HeadersAreSlabs}

@@ -11,7 +11,7 @@ use Rattle.index_lists.specs.Lists.{list_without, with_first, without}
 use Rattle.index_lists.proofs.CallerLemmas.{times-list_without}
 use Rattle.index_lists.proofs.CallerLemmas.{in_some, in_one, one_list, members-with_first, members-without}
 use Rattle.index_lists.proofs.CallerLemmas.{AreApart-with_first, AreApart-without, IsIn-with_first, none_from_each}
-use Rattle.size_classes.specs.Classes.{class_count}
+use Rattle.pool_types.specs.Geometry.{class_count}
 use Rattle.heap_slabs.specs.declared.records.HeapSlab.{HeapSlab}
 use Rattle.heap_slabs.specs.Slabs.{SlabRecords, AreKept, record_at}
 

@@ -1,15 +1,12 @@
 -- The record of a slab that a heap keeps, what taking, freeing and joining make of it, and its header word.
-use Rattle.std.specs.Prelude.{ℕ, zero, suc, ◌+◌, ◌-◌, ◌*◌, ◌/◌, ◌%◌, ◌^◌, min, Bool, cond, ◌||◌, eqb, ltb, Option}
+use Rattle.std.specs.Prelude.{ℕ, zero, suc, ◌+◌, ◌-◌, ◌*◌, ◌/◌, ◌%◌, Bool, cond, ◌||◌, eqb, ltb, Option}
 use Rattle.std.specs.Prelude.{Some, None, is_some}
 use Rattle.size_classes.specs.Classes.{class_size, class_objects}
+use Rattle.pool_types.specs.Sums.{capped}
 use Rattle.pool_types.specs.Geometry.{unit_bytes, granule_bytes, slab_bytes}
 use Rattle.size_classes.specs.Layout.{object_offset}
 use Rattle.slab_core.specs.Headers.{count_unit, head_unit}
 use Rattle.heap_slabs.specs.declared.records.HeapSlab.{HeapSlab}
-
--- what is kept of a number in 64 bits
-abbrev pub capped : ℕ → ℕ
-capped n = min n (2 ^ 64 - 1)
 
 -- the unit at which a slab begins
 abbrev pub slab_start : ℕ → ℕ

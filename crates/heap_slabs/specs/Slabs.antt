@@ -1,7 +1,7 @@
 -- The slabs that a heap keeps, and how a call changes them.
 use Rattle.std.specs.Prelude.{◌≡◌, ℕ, ◌<◌, ◌^◌, Bool, true, cond, ◌&&◌, eqb, ltb, List, [], ◌∷◌, length}
 use Rattle.std.specs.Prelude.{slice_index_or, slice_set, drop, replicate, Option, Some, None}
-use Rattle.size_classes.specs.Classes.{class_count}
+use Rattle.pool_types.specs.Geometry.{class_count}
 use Rattle.index_lists.specs.Lists.{Lists, AreApart, IsIn, empty_lists, members, with_first, without}
 use Rattle.heap_slabs.specs.declared.records.HeapSlab.{HeapSlab}
 use Rattle.heap_slabs.specs.declared.slabs.Wanted.{Wanted}

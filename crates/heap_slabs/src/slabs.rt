@@ -8,7 +8,7 @@ ghost use Rattle.heap_slabs.specs.Slabs.{first_among, first_of_class, first_from
 
 use crate::records::HeapSlab;
 use index_lists::IndexLists;
-use size_classes::CLASSES;
+use pool_types::geometry::CLASSES;
 use std::alloc::{AllocError, Global};
 use std::marker::Model;
 

@@ -6,7 +6,7 @@ use Rattle.pool_words.specs.declared.actions.Action.{Action}
 use Rattle.pool_words.specs.declared.actions.Action.TheVariants.{Load, Store, Exchange}
 use Rattle.word_codes.specs.Links.{link_of}
 use Rattle.word_codes.specs.Locks.{lock_word}
-use Rattle.word_codes.specs.Sums.{capped}
+use Rattle.pool_types.specs.Sums.{capped}
 use Rattle.large_cache.specs.declared.get.CacheCall.{CacheCall}
 use Rattle.large_cache.specs.declared.get.HitAt.{HitAt}
 use Rattle.large_cache.specs.declared.get.GetAt.{GetAt}

@@ -1,5 +1,5 @@
 -- The search for the least free base: each base that it passes over overlaps a region.
-use Rattle.std.proofs.Common.{◌≡◌, ℕ, ◌+◌, ◌-◌, ◌*◌, ◌^◌, ◌<◌, ◌≤◌, Bool, true, false, arith, ap, ◌∙◌, sym, ◌⊎◌, inl, inr, refl, List, [], ◌∷◌, cond}
+use Rattle.std.proofs.Common.{◌≡◌, true≢false, ℕ, ◌+◌, ◌-◌, ◌*◌, ◌^◌, ◌<◌, ◌≤◌, Bool, true, false, arith, ap, ◌∙◌, sym, ◌⊎◌, inl, inr, refl, List, [], ◌∷◌, cond}
 use Rattle.std.proofs.Math.Bool.{or-true}
 use Rattle.std.proofs.lemmas.Bool.{cases_lt}
 use Rattle.std.proofs.lemmas.Bool.Decides.{nat_tests}
@@ -58,9 +58,6 @@ overlaps-on met bytes base later there after before = grind (arith, nat_tests)
 pub overlaps-behind : (met : Region) (bytes base : ℕ) → overlaps met (at_base bytes base) ≡ true → base < met.base + met.bytes
 overlaps-behind met bytes base there = grind (arith, nat_tests)
 
-true_is_not_false : false ≡ true → ⊥
-true_is_not_false same = cc
-
 -- the base that the rule gives is free
 free_at : (out : List Region) (bytes : ℕ) (region : Region) (rule : IsByRule out bytes region) → overlaps_any out (at_base bytes (1048576 * (rule.least.steps + 1))) ≡ false
 free_at out bytes region rule = ap (λ b. overlaps_any out (at_base bytes b)) (sym rule.least.multiple) ∙ rule.least.free
@@ -91,7 +88,7 @@ none-past out bytes base region before high rule = none_past_at out bytes base r
   where
     none_past_at : (out : List Region) (bytes base : ℕ) (region : Region) (before : IsTried out bytes base) → 2 ^ 64 - 1 < base + bytes → (rule : IsByRule out bytes region) →
         (rule.least.steps < before.steps) ⊎ (before.steps ≤ rule.least.steps) → ⊥
-    none_past_at out bytes base region before high rule (inl less) = true_is_not_false (sym (free_at out bytes region rule) ∙ before.tried rule.least.steps less)
+    none_past_at out bytes base region before high rule (inl less) = true≢false (sym (before.tried rule.least.steps less) ∙ free_at out bytes region rule)
     none_past_at out bytes base region before high rule (inr more) = omega (arith, before.multiple, rule.least.multiple, rule.ends)
 
 -- nor where the region that is met ends so high that no multiple follows
@@ -101,11 +98,11 @@ none-behind out bytes base region met some before found high rule = none_behind_
   where
     none_behind_at : (out : List Region) (bytes base : ℕ) (region met : Region) → 1 ≤ bytes → (before : IsTried out bytes base) → find (λ one. overlaps one (at_base bytes base)) out ≡ Some met →
         2 ^ 64 - 1048576 < met.base + met.bytes → (rule : IsByRule out bytes region) → (rule.least.steps < before.steps) ⊎ (before.steps ≤ rule.least.steps) → ⊥
-    none_behind_at out bytes base region met some before found high rule (inl less) = true_is_not_false (sym (free_at out bytes region rule) ∙ before.tried rule.least.steps less)
+    none_behind_at out bytes base region met some before found high rule (inl less) = true≢false (sym (before.tried rule.least.steps less) ∙ free_at out bytes region rule)
     none_behind_at out bytes base region met some before found high rule (inr more) =
-        true_is_not_false (sym (free_at out bytes region rule) ∙ find-any (λ one. overlaps one (at_base bytes base)) (λ one. overlaps one (at_base bytes (1048576 * (rule.least.steps + 1)))) out met found
+        true≢false (sym (find-any (λ one. overlaps one (at_base bytes base)) (λ one. overlaps one (at_base bytes (1048576 * (rule.least.steps + 1)))) out met found
         (overlaps-on met bytes base (1048576 * (rule.least.steps + 1)) (find-passes (λ one. overlaps one (at_base bytes base)) out met found)
-        (omega (arith, before.multiple)) (omega (arith, rule.least.multiple, rule.ends))))
+        (omega (arith, before.multiple)) (omega (arith, rule.least.multiple, rule.ends)))) ∙ free_at out bytes region rule)
 
 -- what the rule gives is the answer of a get past the script's end
 pub by_rule : (out : List Region) (bytes : ℕ) (result : Option Region) → length out < 64 → IfSome result (IsByRule out bytes) → IfNone result ((region : Region) → IsByRule out bytes region → ⊥) → IsAnswer None out bytes result

@@ -1,11 +1,11 @@
 -- What callers cite: writes one after another, and the rows by their names.
 use Rattle.std.proofs.Common.{◌≡◌, ◌≢◌, ℕ, ◌+◌, ◌-◌, Bool, true, false, List, [], ◌++◌, length, take, drop, Some, None}
 use Rattle.std.proofs.Common.{refl, sym, ap, ◌∙◌, append_assoc, arith}
-use Rattle.std.specs.Prelude.{Contains, not}
+use Rattle.std.specs.Prelude.{Contains, Option, not}
 use Rattle.std.specs.List.{find, position_or_len}
 use Rattle.std.specs.Str.{bytes_eq}
-use Rattle.std.specs.declared.option.Option.{Option}
 use Rattle.std.specs.Io.KnownBytes.{Appends}
+use Rattle.std.proofs.lemmas.Option.{same_Some}
 use Rattle.std.proofs.lemmas.List.{take_all, length-drop, length-append}
 use Rattle.std.proofs.lemmas.List.Folds.{list_all_at}
 use Rattle.std.proofs.Math.Seq.{take-add, take-append-add}
@@ -63,12 +63,9 @@ row_found : (row : Row) → row ≢ Nothing → find (λ other. bytes_eq (row_na
 row_found Nothing named = absurd (named refl)
 row_found row named = refl
 
-some_same : {A : Type 0} {a b : A} → ◌≡◌ {A = Option A} (Some a) (Some b) → a ≡ b
-some_same same = cc
-
 -- so its name is its own
 pub row_name-own : (one other : Row) → one ≢ Nothing → other ≢ Nothing → row_name one ≡ row_name other → one ≡ other
-row_name-own one other first second same = some_same (
+row_name-own one other first second same = same_Some one other (
     sym (row_found one first)
     ∙ ap (λ (name : List ℕ). find (λ row. bytes_eq (row_name row) name) all_rows) same
     ∙ row_found other second

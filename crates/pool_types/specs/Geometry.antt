@@ -33,6 +33,10 @@ objects_bytes = slab_bytes - slab_header_bytes
 abbrev pub largest_small : ℕ
 largest_small = 8128
 
+-- how many classes of small objects there are
+abbrev pub class_count : ℕ
+class_count = 26
+
 -- the bytes of a line: the least that lies before a large object, and the least alignment of one
 abbrev pub line_bytes : ℕ
 line_bytes = 64

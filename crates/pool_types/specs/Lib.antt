@@ -7,5 +7,6 @@ pub mod Regions
 pub mod Rows
 pub mod Script
 pub mod Streams
+pub mod Sums
 pub mod Texts
 pub mod Transfers

@@ -23,6 +23,9 @@ pub const OBJECTS_BYTES: u64 = SLAB_BYTES - SLAB_HEADER_BYTES;
 /// The largest size of a small object, in bytes.
 pub const LARGEST_SMALL: u64 = 8128;
 
+/// How many classes of small objects there are.
+pub const CLASSES: usize = 26;
+
 /// The bytes of a line: the least that lies before a large object, and the least alignment of one.
 pub const LINE_BYTES: u64 = 64;
 

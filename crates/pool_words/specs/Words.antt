@@ -1,6 +1,6 @@
 -- The kinds of word, and where each word lies in the one row.
 use Rattle.std.specs.Prelude.{ℕ, zero, suc, ◌+◌, ◌-◌, ◌*◌, ◌/◌, ◌^◌, cond, ltb, List, [], ◌∷◌, slice_index}
-use Rattle.pool_types.specs.Geometry.{unit_bytes, granule_bytes, bin_count}
+use Rattle.pool_types.specs.Geometry.{unit_bytes, granule_bytes, class_count, bin_count}
 use Rattle.pool_types.specs.Limits.{most_regions}
 use Rattle.pool_words.specs.declared.words.Key.{Key}
 use Rattle.pool_words.specs.declared.words.Word.{Word}
@@ -12,10 +12,6 @@ granule_units = granule_bytes / unit_bytes
 -- how many slots for regions there are: as many as regions may be out
 abbrev pub region_slots : ℕ
 region_slots = most_regions
-
--- how many classes of small objects there are
-abbrev pub class_count : ℕ
-class_count = 26
 
 -- how many counts of granules a block in the cache may have, 0 with them
 abbrev pub cache_counts : ℕ

@@ -3,7 +3,7 @@ use Rattle.std.specs.Prelude.{ℕ, ◌+◌}
 use Rattle.pool_words.specs.declared.words.Word.{Word}
 use Rattle.pool_words.specs.declared.actions.Action.{Action}
 use Rattle.pool_words.specs.declared.actions.Action.TheVariants.{Load, Store, Swap}
-use Rattle.word_codes.specs.Sums.{capped}
+use Rattle.pool_types.specs.Sums.{capped}
 use Rattle.word_codes.specs.declared.marks.Mark.{Mark}
 use Rattle.word_codes.specs.declared.publics.Public.{Public}
 use Rattle.word_codes.specs.Marks.{mark_of, private_link}

@@ -11,6 +11,7 @@ use Rattle.std.proofs.lemmas.List.Folds.{list_any_at}
 use Rattle.std.proofs.lemmas.List.Quantifiers.{all_pairs_push}
 use Rattle.pool_types.specs.declared.policy.RegionRec.{RegionRec}
 use Rattle.pool_types.specs.declared.values.Region.{Region}
+use Rattle.pool_types.specs.Limits.{region_numbers}
 use Rattle.pool_types.specs.Regions.{overlaps, IsFresh}
 use Rattle.regions.specs.Gaps.{has_index, IsGap}
 use Rattle.regions.specs.Obtaining.{HasNumber}
@@ -113,7 +114,7 @@ module _ {R : Type 0} (out : R → List Region) (old : Desk R) (one : RegionRec)
   few : length old.records < 64
   few = let full = numbered.open_is in grind (arith, nat_tests)
 
-  low : one.number < 4194304
+  low : one.number < region_numbers
   low = let full = numbered.open_is in grind (arith, nat_tests)
 
   apart_from : (k : ℕ) (d : RegionRec) → k < length old.records → AreApart (get_or old.records k d) one

@@ -4,7 +4,8 @@ use Rattle.std.proofs.Math.Nat.{div-zero}
 use Rattle.std.proofs.lemmas.Bool.Decides.{nat_tests}
 use Rattle.std.proofs.lemmas.Bool.{cases_lt}
 use Rattle.pool_types.specs.Geometry.{objects_bytes}
-use Rattle.size_classes.specs.Classes.{class_at, class_count, class_size, class_objects}
+use Rattle.pool_types.specs.Geometry.{class_count}
+use Rattle.size_classes.specs.Classes.{class_at, class_size, class_objects}
 use Rattle.size_classes.proofs.Sizes.{class_size-past}
 
 pub past : (number : ℕ) → class_at number ≡ None → class_count ≤ number

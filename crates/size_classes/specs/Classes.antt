@@ -1,14 +1,10 @@
 -- The classes of sizes, and the class of a size.
 use Rattle.std.specs.Prelude.{ℕ, ◌/◌, ◌<◌, ◌≤◌, cond, ltb, List, [], ◌∷◌, slice_index, Option, Some, None, position, nat_le}
-use Rattle.pool_types.specs.Geometry.{objects_bytes}
+use Rattle.pool_types.specs.Geometry.{objects_bytes, class_count}
 
 -- the sizes of the classes, in bytes and in rising order
 abbrev pub class_sizes : List ℕ
 class_sizes = 8 ∷ 16 ∷ 32 ∷ 48 ∷ 64 ∷ 80 ∷ 96 ∷ 112 ∷ 128 ∷ 160 ∷ 192 ∷ 224 ∷ 256 ∷ 320 ∷ 384 ∷ 448 ∷ 512 ∷ 640 ∷ 768 ∷ 896 ∷ 1024 ∷ 1792 ∷ 2688 ∷ 4032 ∷ 5376 ∷ 8128 ∷ []
-
--- how many classes there are
-abbrev pub class_count : ℕ
-class_count = 26
 
 -- up to this size each doubling has four classes, from 64 on
 abbrev pub quarters_end : ℕ

@@ -7,10 +7,10 @@
 #![tactic(auto)]
 
 ghost use Rattle.std.specs.Prelude.{◌≡◌, ℕ, ◌<◌, ◌≤◌};
-ghost use Rattle.pool_types.specs.Geometry.{largest_small};
-ghost use Rattle.size_classes.specs.Classes.{class_of, IsFirstClass, class_count, class_size, class_objects, quarters_end};
+ghost use Rattle.pool_types.specs.Geometry.{class_count, largest_small};
+ghost use Rattle.size_classes.specs.Classes.{class_of, IsFirstClass, class_size, class_objects, quarters_end};
 
-use pool_types::geometry::{LARGEST_SMALL, OBJECTS_BYTES};
+use pool_types::geometry::{CLASSES, LARGEST_SMALL, OBJECTS_BYTES};
 use std::marker::Model;
 
 pub mod laws;
@@ -19,9 +19,6 @@ pub mod numbered;
 pub mod request;
 
 pub use layout::object_offset;
-
-/// How many classes there are.
-pub const CLASSES: usize = 26;
 
 /// The sizes of the classes in bytes, in rising order.
 const SIZES: [u16; CLASSES] = [
@@ -40,7 +37,7 @@ pub struct Class {
 
 impl Model for Class {
     ghost use Rattle.std.specs.Prelude.{ℕ, ◌<◌};
-    ghost use Rattle.size_classes.specs.Classes.{class_count};
+    ghost use Rattle.pool_types.specs.Geometry.{class_count};
 
     ghost Value = { ℕ };
 

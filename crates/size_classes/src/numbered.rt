@@ -3,8 +3,8 @@ ghost use Rattle.std.specs.Prelude.{◌≡◌};
 ghost use Rattle.size_classes.specs.Classes.{class_at, class_size, class_objects};
 ghost use Rattle.size_classes.specs.Layout.{object_offset};
 
-use crate::{CLASSES, Class};
-use pool_types::geometry::SLAB_BYTES;
+use crate::Class;
+use pool_types::geometry::{CLASSES, SLAB_BYTES};
 
 impl Class {
     /// The class of this number, if there is one.

@@ -187,11 +187,11 @@ impl<R: Raw> Depot<R> {
         }
     }
 
-    /// Gives the callback back; regions that are out stay out.
-    pub fn end(self) -> R
-        ensures { result ≡ self.desk.raw }
+    /// Gives the office back, with the regions that are out.
+    pub fn office(self) -> Office<R>
+        ensures { result ≡ self.desk }
     {
         let Depot { office, .. } = self;
-        office.end()
+        office
     }
 }

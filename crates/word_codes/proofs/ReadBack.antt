@@ -8,7 +8,7 @@ use Rattle.word_codes.specs.declared.publics.Public.TheVariants as public
 use Rattle.word_codes.specs.declared.nexts.Next.TheVariants as next
 use Rattle.word_codes.specs.declared.guards.Guard.TheVariants as guard
 use Rattle.word_codes.specs.declared.queue_links.QueueLink.{QueueLink}
-use Rattle.word_codes.specs.Sums.{capped}
+use Rattle.pool_types.specs.Sums.{capped}
 use Rattle.word_codes.specs.Marks.{mark_of, mark_word}
 use Rattle.word_codes.specs.Kinds.{kind_of, kind_word}
 use Rattle.word_codes.specs.Owns.{own_of, own_word}

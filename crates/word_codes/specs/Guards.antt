@@ -1,6 +1,6 @@
 -- A guard of a block.
 use Rattle.std.specs.Prelude.{ℕ, zero, suc, ◌+◌, ◌^◌, ◌<◌, ⊤}
-use Rattle.word_codes.specs.Sums.{capped}
+use Rattle.pool_types.specs.Sums.{capped}
 use Rattle.word_codes.specs.declared.guards.Guard.{Guard}
 use Rattle.word_codes.specs.declared.guards.Guard.TheVariants.{Used, Coalescing, Wall, Free}
 

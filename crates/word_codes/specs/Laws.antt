@@ -1,6 +1,6 @@
 -- What is written reads back as it was.
 use Rattle.std.specs.Prelude.{◌≡◌, ℕ, ◌^◌, ◌<◌, Option, Some}
-use Rattle.word_codes.specs.Sums.{capped}
+use Rattle.pool_types.specs.Sums.{capped}
 use Rattle.word_codes.specs.Marks.{mark_of, mark_word, FitsMark}
 use Rattle.word_codes.specs.Kinds.{kind_of, kind_word, FitsKind}
 use Rattle.word_codes.specs.Owns.{own_of, own_word, FitsOwn}

@@ -10,4 +10,3 @@ pub mod Places
 pub mod Publics
 pub mod QueueLinks
 pub mod RegionWords
-pub mod Sums

@@ -1,6 +1,6 @@
 -- The link of a chain: an item's index plus 1, or 0 at the end.
 use Rattle.std.specs.Prelude.{ℕ, zero, suc, ◌+◌, ◌^◌, ◌<◌, ⊤, Option, Some, None}
-use Rattle.word_codes.specs.Sums.{capped}
+use Rattle.pool_types.specs.Sums.{capped}
 
 unfoldable pub link_of : ℕ → Option ℕ
 link_of zero = None

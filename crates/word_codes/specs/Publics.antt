@@ -1,6 +1,6 @@
 -- The objects of a slab that others gave back.
 use Rattle.std.specs.Prelude.{ℕ, zero, suc, ◌+◌, ◌^◌, ◌<◌, ⊤}
-use Rattle.word_codes.specs.Sums.{capped}
+use Rattle.pool_types.specs.Sums.{capped}
 use Rattle.word_codes.specs.declared.publics.Public.{Public}
 use Rattle.word_codes.specs.declared.publics.Public.TheVariants.{Null, Unusable, Filled}
 

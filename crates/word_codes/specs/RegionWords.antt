@@ -1,7 +1,7 @@
 -- The region of a slot, and where its units lie in it.
 use Rattle.std.specs.Prelude.{ℕ, ◌+◌, ◌-◌, ◌*◌, ◌/◌, ◌%◌, ◌^◌, ◌<◌, max, Bool, cond, not, ◌&&◌, ◌||◌, eqb, ltb, leb, Option, Some, None}
 use Rattle.pool_types.specs.Geometry.{unit_bytes, granule_bytes, line_bytes}
-use Rattle.word_codes.specs.Sums.{capped}
+use Rattle.pool_types.specs.Sums.{capped}
 use Rattle.word_codes.specs.Places.{granule_units}
 use Rattle.word_codes.specs.declared.region_words.RegionWord.{RegionWord}
 

@@ -1,6 +1,6 @@
 use Rattle.std.proofs.Common.{◌≡◌, ◌<◌, ◌^◌, replicate, None, rules, arith}
 use Rattle.index_lists.specs.Lists.{empty_lists}
-use Rattle.size_classes.specs.Classes.{class_count}
+use Rattle.pool_types.specs.Geometry.{class_count}
 use Rattle.heap_slabs.proofs.Keeping.{kept_none}
 use Rattle.heap_slabs.proofs.slabs.Slabs.make.Goals as goal
 
