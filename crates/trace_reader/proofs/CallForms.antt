@@ -1,8 +1,8 @@
 -- What holds of the values that words of a form are read as.
-use Rattle.std.proofs.Common.{◌≡◌, ℕ, ◌+◌, ◌≤◌, inl, inr, Bool, true, false, List, refl, sym, ◌∙◌, ap, subst}
-use Rattle.std.specs.Prelude.{Result, Ok, Some, slice_get}
+use Rattle.std.proofs.Common.{◌≡◌, ℕ, ◌+◌, ◌<◌, ◌≤◌, inl, inr, Bool, true, false, List, refl, sym, ◌∙◌, ap, subst}
+use Rattle.std.specs.Prelude.{Result, Ok, Some, None, slice_get}
+use Rattle.std.specs.declared.option.Option.{Option}
 use Rattle.trace_reader.specs.declared.refusal.Refusal.{Refusal}
-use Rattle.trace_reader.specs.declared.names.BoundName.{BoundName}
 use Rattle.trace_reader.specs.declared.acts.What.{What}
 use Rattle.trace_reader.specs.declared.acts.What.TheVariants as what
 use Rattle.trace_reader.specs.declared.acts.TraceCall.{TraceCall}
@@ -13,7 +13,7 @@ use Rattle.trace_reader.specs.Combinators.{Then, Ends, Wraps}
 use Rattle.trace_reader.specs.Contexts.{Context}
 use Rattle.trace_reader.specs.Slots.{ReadsSize, ReadsNewName, ReadsWhat}
 use Rattle.trace_reader.specs.Acts.{AnyNumber, BindingCall, PlainCall, ReadsCall, ReadsCallWord, bound_by}
-use Rattle.trace_reader.specs.Served.{HasSmallSize, IsAskedOfBound, IsNewTo, asked_of, is_among, word_of_call}
+use Rattle.trace_reader.specs.Served.{HasSmallSize, IsAskedOfBound, IsNextName, asked_of, word_of_call}
 use Rattle.trace_reader.proofs.ContextLemmas.{word_read}
 use Rattle.trace_reader.proofs.OneSlot.{ok_same, not_both}
 
@@ -47,7 +47,7 @@ IsSmallCall word call = (word_of_call call ≡ word) × HasSmallSize call
 small_size : (size : ℕ) (word : List ℕ) → ReadsSize false word (Ok size) → size ≤ 8128
 small_size size word read = elim read.1 [ inl is ↦ let h : false ≡ true = is in absurd (cc) | inr small ↦ small ]
 
-pub binding_small : (before : Context) (name : BoundName) (word : CallWord) → Holds (IsSmallCall word) (BindingCall false before name word)
+pub binding_small : (before : Context) (name : ℕ) (word : CallWord) → Holds (IsSmallCall word) (BindingCall false before name word)
 binding_small before name MallocWord = then_holds (IsSmallCall MallocWord) (ReadsSize false) (λ size. Ends (call.Malloc name size))
     (λ size text read. ends_holds (IsSmallCall MallocWord) (call.Malloc name size) (refl, small_size size text read))
 binding_small before name AlignedWord = then_holds (IsSmallCall AlignedWord) AnyNumber (λ size. Then AnyNumber (λ alignment. Ends (call.Aligned name size alignment)))
@@ -74,56 +74,86 @@ plain_small before AlignedWord = λ words at value read. absurd read
 plain_small before ReallocWord = λ words at value read. absurd read
 plain_small before AlignedReallocWord = λ words at value read. absurd read
 
+-- the number of the name that a call binds
+
+-- the call binds this name, or none
+abbrev pub BindsAs : Option ℕ → TraceCall → Type 0
+BindsAs number call = bound_by call ≡ number
+
+pub binding_binds : (more : Bool) (before : Context) (name : ℕ) (word : CallWord) → Holds (BindsAs (Some name)) (BindingCall more before name word)
+binding_binds more before name MallocWord = then_holds (BindsAs (Some name)) (ReadsSize more) (λ size. Ends (call.Malloc name size))
+    (λ size text read. ends_holds (BindsAs (Some name)) (call.Malloc name size) refl)
+binding_binds more before name AlignedWord = then_holds (BindsAs (Some name)) AnyNumber (λ size. Then AnyNumber (λ alignment. Ends (call.Aligned name size alignment)))
+    (λ size text read. then_holds (BindsAs (Some name)) AnyNumber (λ alignment. Ends (call.Aligned name size alignment)) (λ alignment text read. ends_holds (BindsAs (Some name)) (call.Aligned name size alignment) refl))
+binding_binds more before name ReallocWord = then_holds (BindsAs (Some name)) (ReadsWhat before) (λ what. Then AnyNumber (λ size. Ends (call.Realloc name what size)))
+    (λ what text read. then_holds (BindsAs (Some name)) AnyNumber (λ size. Ends (call.Realloc name what size)) (λ size text read. ends_holds (BindsAs (Some name)) (call.Realloc name what size) refl))
+binding_binds more before name AlignedReallocWord =
+    then_holds (BindsAs (Some name)) (ReadsWhat before) (λ what. Then AnyNumber (λ size. Then AnyNumber (λ alignment. Ends (call.AlignedRealloc name what size alignment))))
+    (λ what text read. then_holds (BindsAs (Some name)) AnyNumber (λ size. Then AnyNumber (λ alignment. Ends (call.AlignedRealloc name what size alignment)))
+    (λ size text read. then_holds (BindsAs (Some name)) AnyNumber (λ alignment. Ends (call.AlignedRealloc name what size alignment))
+    (λ alignment text read. ends_holds (BindsAs (Some name)) (call.AlignedRealloc name what size alignment) refl)))
+binding_binds more before name FreeWord = λ words at value read. absurd read
+binding_binds more before name MsizeWord = λ words at value read. absurd read
+binding_binds more before name IdentifyWord = λ words at value read. absurd read
+binding_binds more before name ExitWord = λ words at value read. absurd read
+
+pub plain_binds : (before : Context) (word : CallWord) → Holds (BindsAs None) (PlainCall before word)
+plain_binds before FreeWord = then_holds (BindsAs None) (ReadsWhat before) (λ what. Ends (call.Free what)) (λ what text read. ends_holds (BindsAs None) (call.Free what) refl)
+plain_binds before MsizeWord = then_holds (BindsAs None) (ReadsWhat before) (λ what. Ends (call.Msize what)) (λ what text read. ends_holds (BindsAs None) (call.Msize what) refl)
+plain_binds before IdentifyWord = then_holds (BindsAs None) (ReadsWhat before) (λ what. Ends (call.Identify what)) (λ what text read. ends_holds (BindsAs None) (call.Identify what) refl)
+plain_binds before ExitWord = ends_holds (BindsAs None) call.Exit refl
+plain_binds before MallocWord = λ words at value read. absurd read
+plain_binds before AlignedWord = λ words at value read. absurd read
+plain_binds before ReallocWord = λ words at value read. absurd read
+plain_binds before AlignedReallocWord = λ words at value read. absurd read
+
 -- names that calls bind and ask for
 
--- these names were bound before
-abbrev pub AreBound : List (List ℕ) → Context → Type 0
-AreBound names before = (word : List ℕ) → before.bound word ≡ is_among names word
+-- the numbers of the names that were bound lie below their count
+abbrev pub AreCounted : Context → Type 0
+AreCounted before = (word : List ℕ) (number : ℕ) → before.bound word ≡ Some number → number < before.count
 
--- the call asks for one of the names at most, and binds none of them
-abbrev pub IsInTurn : List (List ℕ) → TraceCall → Type 0
-IsInTurn names call = IsAskedOfBound names (asked_of call) × IsNewTo names (bound_by call)
+-- the call is asked of one of so many names at most, and binds the next at most
+abbrev pub IsInTurn : ℕ → TraceCall → Type 0
+IsInTurn count call = IsAskedOfBound count (asked_of call) × IsNextName count (bound_by call)
 
-asked_bound : (names : List (List ℕ)) (before : Context) → AreBound names before → (word : List ℕ) (what : What) → ReadsWhat before word (Ok what) → IsAskedOfBound names (Some what)
-asked_bound names before bound word what.Null read = tt
-asked_bound names before bound word (what.Name name) read = ap (λ (w : List ℕ). is_among names w) (sym read.0) ∙ sym (bound word) ∙ read.2
-asked_bound names before bound word (what.Place place) read = tt
+asked_bound : (before : Context) → AreCounted before → (word : List ℕ) (what : What) → ReadsWhat before word (Ok what) → IsAskedOfBound before.count (Some what)
+asked_bound before counted word what.Null read = tt
+asked_bound before counted word (what.Name number) read = counted word number read.1
+asked_bound before counted word (what.Place place) read = tt
 
-new_name : (names : List (List ℕ)) (before : Context) → AreBound names before → (word : List ℕ) (name : BoundName) → ReadsNewName before word (Ok name) → is_among names name.bytes.items ≡ false
-new_name names before bound word name read = ap (λ (w : List ℕ). is_among names w) (sym read.0) ∙ sym (bound word) ∙ read.2
+binding_turn : (more : Bool) (before : Context) → AreCounted before → (name : ℕ) → name ≡ before.count → (word : CallWord) → Holds (IsInTurn before.count) (BindingCall more before name word)
+binding_turn more before counted name next MallocWord = then_holds (IsInTurn before.count) (ReadsSize more) (λ size. Ends (call.Malloc name size))
+    (λ size text read. ends_holds (IsInTurn before.count) (call.Malloc name size) (tt, next))
+binding_turn more before counted name next AlignedWord = then_holds (IsInTurn before.count) AnyNumber (λ size. Then AnyNumber (λ alignment. Ends (call.Aligned name size alignment)))
+    (λ size text read. then_holds (IsInTurn before.count) AnyNumber (λ alignment. Ends (call.Aligned name size alignment)) (λ alignment text read. ends_holds (IsInTurn before.count) (call.Aligned name size alignment) (tt, next)))
+binding_turn more before counted name next ReallocWord = then_holds (IsInTurn before.count) (ReadsWhat before) (λ what. Then AnyNumber (λ size. Ends (call.Realloc name what size)))
+    (λ what text asked. then_holds (IsInTurn before.count) AnyNumber (λ size. Ends (call.Realloc name what size))
+    (λ size word read. ends_holds (IsInTurn before.count) (call.Realloc name what size) (asked_bound before counted text what asked, next)))
+binding_turn more before counted name next AlignedReallocWord =
+    then_holds (IsInTurn before.count) (ReadsWhat before) (λ what. Then AnyNumber (λ size. Then AnyNumber (λ alignment. Ends (call.AlignedRealloc name what size alignment))))
+    (λ what text asked. then_holds (IsInTurn before.count) AnyNumber (λ size. Then AnyNumber (λ alignment. Ends (call.AlignedRealloc name what size alignment)))
+    (λ size word read. then_holds (IsInTurn before.count) AnyNumber (λ alignment. Ends (call.AlignedRealloc name what size alignment))
+    (λ alignment word read. ends_holds (IsInTurn before.count) (call.AlignedRealloc name what size alignment) (asked_bound before counted text what asked, next))))
+binding_turn more before counted name next FreeWord = λ words at value read. absurd read
+binding_turn more before counted name next MsizeWord = λ words at value read. absurd read
+binding_turn more before counted name next IdentifyWord = λ words at value read. absurd read
+binding_turn more before counted name next ExitWord = λ words at value read. absurd read
 
-binding_turn : (more : Bool) (names : List (List ℕ)) (before : Context) → AreBound names before → (name : BoundName) → is_among names name.bytes.items ≡ false → (word : CallWord) → Holds (IsInTurn names) (BindingCall more before name word)
-binding_turn more names before bound name new MallocWord = then_holds (IsInTurn names) (ReadsSize more) (λ size. Ends (call.Malloc name size))
-    (λ size text read. ends_holds (IsInTurn names) (call.Malloc name size) (tt, new))
-binding_turn more names before bound name new AlignedWord = then_holds (IsInTurn names) AnyNumber (λ size. Then AnyNumber (λ alignment. Ends (call.Aligned name size alignment)))
-    (λ size text read. then_holds (IsInTurn names) AnyNumber (λ alignment. Ends (call.Aligned name size alignment)) (λ alignment text read. ends_holds (IsInTurn names) (call.Aligned name size alignment) (tt, new)))
-binding_turn more names before bound name new ReallocWord = then_holds (IsInTurn names) (ReadsWhat before) (λ what. Then AnyNumber (λ size. Ends (call.Realloc name what size)))
-    (λ what text asked. then_holds (IsInTurn names) AnyNumber (λ size. Ends (call.Realloc name what size))
-    (λ size word read. ends_holds (IsInTurn names) (call.Realloc name what size) (asked_bound names before bound text what asked, new)))
-binding_turn more names before bound name new AlignedReallocWord =
-    then_holds (IsInTurn names) (ReadsWhat before) (λ what. Then AnyNumber (λ size. Then AnyNumber (λ alignment. Ends (call.AlignedRealloc name what size alignment))))
-    (λ what text asked. then_holds (IsInTurn names) AnyNumber (λ size. Then AnyNumber (λ alignment. Ends (call.AlignedRealloc name what size alignment)))
-    (λ size word read. then_holds (IsInTurn names) AnyNumber (λ alignment. Ends (call.AlignedRealloc name what size alignment))
-    (λ alignment word read. ends_holds (IsInTurn names) (call.AlignedRealloc name what size alignment) (asked_bound names before bound text what asked, new))))
-binding_turn more names before bound name new FreeWord = λ words at value read. absurd read
-binding_turn more names before bound name new MsizeWord = λ words at value read. absurd read
-binding_turn more names before bound name new IdentifyWord = λ words at value read. absurd read
-binding_turn more names before bound name new ExitWord = λ words at value read. absurd read
+plain_turn : (before : Context) → AreCounted before → (word : CallWord) → Holds (IsInTurn before.count) (PlainCall before word)
+plain_turn before counted FreeWord = then_holds (IsInTurn before.count) (ReadsWhat before) (λ what. Ends (call.Free what)) (λ what text read. ends_holds (IsInTurn before.count) (call.Free what) (asked_bound before counted text what read, tt))
+plain_turn before counted MsizeWord = then_holds (IsInTurn before.count) (ReadsWhat before) (λ what. Ends (call.Msize what)) (λ what text read. ends_holds (IsInTurn before.count) (call.Msize what) (asked_bound before counted text what read, tt))
+plain_turn before counted IdentifyWord = then_holds (IsInTurn before.count) (ReadsWhat before) (λ what. Ends (call.Identify what)) (λ what text read. ends_holds (IsInTurn before.count) (call.Identify what) (asked_bound before counted text what read, tt))
+plain_turn before counted ExitWord = ends_holds (IsInTurn before.count) call.Exit (tt, tt)
+plain_turn before counted MallocWord = λ words at value read. absurd read
+plain_turn before counted AlignedWord = λ words at value read. absurd read
+plain_turn before counted ReallocWord = λ words at value read. absurd read
+plain_turn before counted AlignedReallocWord = λ words at value read. absurd read
 
-plain_turn : (names : List (List ℕ)) (before : Context) → AreBound names before → (word : CallWord) → Holds (IsInTurn names) (PlainCall before word)
-plain_turn names before bound FreeWord = then_holds (IsInTurn names) (ReadsWhat before) (λ what. Ends (call.Free what)) (λ what text read. ends_holds (IsInTurn names) (call.Free what) (asked_bound names before bound text what read, tt))
-plain_turn names before bound MsizeWord = then_holds (IsInTurn names) (ReadsWhat before) (λ what. Ends (call.Msize what)) (λ what text read. ends_holds (IsInTurn names) (call.Msize what) (asked_bound names before bound text what read, tt))
-plain_turn names before bound IdentifyWord = then_holds (IsInTurn names) (ReadsWhat before) (λ what. Ends (call.Identify what)) (λ what text read. ends_holds (IsInTurn names) (call.Identify what) (asked_bound names before bound text what read, tt))
-plain_turn names before bound ExitWord = ends_holds (IsInTurn names) call.Exit (tt, tt)
-plain_turn names before bound MallocWord = λ words at value read. absurd read
-plain_turn names before bound AlignedWord = λ words at value read. absurd read
-plain_turn names before bound ReallocWord = λ words at value read. absurd read
-plain_turn names before bound AlignedReallocWord = λ words at value read. absurd read
-
-pub call_turn : (more : Bool) (names : List (List ℕ)) (before : Context) → AreBound names before → Holds (IsInTurn names) (ReadsCall more before)
-call_turn more names before bound words at value read = elim read [
-  | inl named ↦ then_holds (IsInTurn names) (ReadsNewName before) (λ name words at. Then (ReadsCallWord true) (BindingCall more before name) words (at + 1))
-      (λ name text new words at. then_holds (IsInTurn names) (ReadsCallWord true) (BindingCall more before name) (λ word other read. binding_turn more names before bound name (new_name names before bound text name new) word) words (at + 1))
+pub call_turn : (more : Bool) (before : Context) → AreCounted before → Holds (IsInTurn before.count) (ReadsCall more before)
+call_turn more before counted words at value read = elim read [
+  | inl named ↦ then_holds (IsInTurn before.count) (ReadsNewName before) (λ name words at. Then (ReadsCallWord true) (BindingCall more before name) words (at + 1))
+      (λ name text new words at. then_holds (IsInTurn before.count) (ReadsCallWord true) (BindingCall more before name) (λ word other read. binding_turn more before counted name new.0 word) words (at + 1))
       words at value named.1
-  | inr plain ↦ then_holds (IsInTurn names) (ReadsCallWord false) (PlainCall before) (λ word text read. plain_turn names before bound word) words at value plain.1
+  | inr plain ↦ then_holds (IsInTurn before.count) (ReadsCallWord false) (PlainCall before) (λ word text read. plain_turn before counted word) words at value plain.1
 ]

@@ -4,7 +4,9 @@ pub mod NumberLemmas
 pub mod SlotLemmas
 pub mod OptionLemmas
 pub mod ThreadLemmas
+pub mod KeyLemmas
 pub mod ContextLemmas
+pub mod EnterLemmas
 pub mod TextLemmas
 pub mod OneWord
 pub mod OneSlot

@@ -1,11 +1,10 @@
 -- Each line is read in one way.
-use Rattle.std.proofs.Common.{◌≡◌, ◌≢◌, ℕ, ◌+◌, ◌<◌, ◌⊎◌, inl, inr, Bool, true, false, List, [], ◌∷◌, ◌++◌, drop, sym, ◌∙◌, ap, subst, arith}
+use Rattle.std.proofs.Common.{◌≡◌, ◌≢◌, ℕ, ◌+◌, ◌<◌, ◌⊎◌, inl, inr, Bool, true, false, List, [], ◌∷◌, ◌++◌, drop, sym, ◌∙◌, ap, subst, arith, true≢false}
 use Rattle.std.specs.Prelude.{Result, Ok, Err, Some, None, slice_get}
 use Rattle.std.specs.declared.option.Option.{Option}
-use Rattle.arrayvec.specs.ArrayVec.{ArrayVec}
+use Rattle.std.proofs.lemmas.Option.{same_Some}
 use Rattle.pool_types.specs.Limits.{most_turns}
 use Rattle.trace_reader.specs.declared.refusal.Refusal.{Refusal}
-use Rattle.trace_reader.specs.declared.names.BoundName.{BoundName}
 use Rattle.trace_reader.specs.declared.keywords.Keyword.{Keyword}
 use Rattle.trace_reader.specs.declared.keywords.Keyword.TheVariants.{ThreadsWord, PoolWord, RawWord, BeginWord, StepWord, UpToWord, FinishWord, ResetWord, DestroyWord}
 use Rattle.trace_reader.specs.declared.keywords.CallWord.{CallWord}
@@ -22,8 +21,8 @@ use Rattle.trace_reader.specs.Combinators.{OnWord, Then, Ends, Wraps}
 use Rattle.trace_reader.specs.Contexts.{Context}
 use Rattle.trace_reader.specs.Slots.{ReadsNumber, ReadsSize, ReadsThread, ReadsPool, ReadsNextPool, ReadsNewName, ReadsWhat}
 use Rattle.trace_reader.specs.Acts.{AnyNumber, BindingCall, CallLine, IsPlainPool, KeywordLine, NamedCall, PlainCall, PoolOptions, RawEntry, ReadsCall, ReadsCallWord, ReadsName, ReadsNames, ReadsRow, ReadsScriptWord, ReadsWords, ThreadsLine, serves_call, serves_keyword, serves_more}
-use Rattle.trace_reader.proofs.OneWord.{keyword_same, some_same}
-use Rattle.trace_reader.proofs.OneSlot.{OneWay, ok_same, err_same, not_both, yes_no, number_one, any_one, size_one, thread_one, pool_one, next_pool_one, new_name_one, what_one, script_one, call_word_one, row_one}
+use Rattle.trace_reader.proofs.OneWord.{keyword_same}
+use Rattle.trace_reader.proofs.OneSlot.{OneWay, ok_same, err_same, not_both, number_one, any_one, size_one, thread_one, pool_one, next_pool_one, new_name_one, what_one, script_one, call_word_one, row_one}
 use Rattle.trace_reader.proofs.OneOption.{options_one}
 
 -- words are read in one way by a form
@@ -68,7 +67,7 @@ wraps_one {A} {B} wrap form clear words at one other h k = elim h [
 
 -- calls
 
-binding_one : (more : Bool) (before : Context) (name : BoundName) (word : CallWord) → OneForm (BindingCall more before name word)
+binding_one : (more : Bool) (before : Context) (name : ℕ) (word : CallWord) → OneForm (BindingCall more before name word)
 binding_one more before name MallocWord = then_one (ReadsSize more) (λ size. Ends (call.Malloc name size)) (size_one more) (λ size. ends_one (call.Malloc name size))
 binding_one more before name AlignedWord = then_one AnyNumber (λ size. Then AnyNumber (λ alignment. Ends (call.Aligned name size alignment))) any_one
     (λ size. then_one AnyNumber (λ alignment. Ends (call.Aligned name size alignment)) any_one (λ alignment. ends_one (call.Aligned name size alignment)))
@@ -105,7 +104,7 @@ call_one more before words at one other h k = elim h [
 -- lines that name threads
 
 absent : (more : Bool) (had : List (List ℕ)) → had ≢ [] → more ≡ false → (had ≡ []) ⊎ (more ≡ true) → ⊥
-absent more had some not may = elim may [ inl none ↦ some none | inr is ↦ yes_no more is not ]
+absent more had some not may = elim may [ inl none ↦ some none | inr is ↦ true≢false (sym is ∙ not) ]
 
 name_mixed : (more : Bool) (had : List (List ℕ)) (word name : List ℕ) (f : Refusal) → ReadsName more had word (Ok name) → ReadsName more had word (Err f) → ⊥
 name_mixed more had word name f h k = elim k [
@@ -168,8 +167,8 @@ names_one more had (word ∷ words) one other h k = elim h [
   ]
 ]
 
-threads_clash : (before : Context) → before.names ≡ [] → before.pools ≡ 0 → (before.names ≢ []) ⊎ (0 < before.pools) → ⊥
-threads_clash before none zero some = elim some [ inl names ↦ names none | inr pools ↦ omega arith ]
+threads_clash : (before : Context) → before.names ≡ [] → before.pools ≡ [] → (before.names ≢ []) ⊎ (before.pools ≢ []) → ⊥
+threads_clash before none unmade some = elim some [ inl names ↦ names none | inr pools ↦ pools unmade ]
 
 threads_one : (more : Bool) (before : Context) (words : List (List ℕ)) (one other : Result Act Refusal) → ThreadsLine more before words one → ThreadsLine more before words other → one ≡ other
 threads_one more before words one other h k = elim h [
@@ -180,31 +179,28 @@ threads_one more before words one other h k = elim h [
 -- pool lines
 
 unserved : (more : Bool) (pool : ℕ) (options : List PoolOption) → (more ≡ true) ⊎ IsPlainPool pool options → more ≡ false → (IsPlainPool pool options → ⊥) → ⊥
-unserved more pool options served not other = elim served [ inl is ↦ yes_no more is not | inr plain ↦ other plain ]
-
-vec_same : (one other : ArrayVec PoolOption) → one.items ≡ other.items → one ≡ other
-vec_same one other same = ap (λ (xs : List PoolOption). record { items = xs }) same
+unserved more pool options served not other = elim served [ inl is ↦ true≢false (sym is ∙ not) | inr plain ↦ other plain ]
 
 pool_options_one : (more : Bool) (pool : ℕ) → OneForm (PoolOptions more pool)
 pool_options_one more pool words at one other h k = elim h [
   | inl p ↦ elim k [
     | inl q ↦ let e : p.0 ≡ q.0 = err_same (options_one [] (drop at words) (Err p.0) (Err q.0) p.1 q.1) in cc
-    | inr r ↦ elim r [ inl q ↦ absurd (not_both (options_one [] (drop at words) (Ok q.0.items) (Err p.0) q.1 p.1)) | inr q ↦ absurd (not_both (options_one [] (drop at words) (Ok q.0.items) (Err p.0) q.1 p.1)) ]
+    | inr r ↦ elim r [ inl q ↦ absurd (not_both (options_one [] (drop at words) (Ok q.0) (Err p.0) q.1 p.1)) | inr q ↦ absurd (not_both (options_one [] (drop at words) (Ok q.0) (Err p.0) q.1 p.1)) ]
   ]
   | inr s ↦ elim s [
     | inl p ↦ elim k [
-      | inl q ↦ absurd (not_both (options_one [] (drop at words) (Ok p.0.items) (Err q.0) p.1 q.1))
+      | inl q ↦ absurd (not_both (options_one [] (drop at words) (Ok p.0) (Err q.0) p.1 q.1))
       | inr r ↦ elim r [
-        | inl q ↦ let e : p.0 ≡ q.0 = vec_same p.0 q.0 (ok_same (options_one [] (drop at words) (Ok p.0.items) (Ok q.0.items) p.1 q.1)) in cc
-        | inr q ↦ let e : p.0.items ≡ q.0.items = ok_same (options_one [] (drop at words) (Ok p.0.items) (Ok q.0.items) p.1 q.1) in
-            absurd (unserved more pool q.0.items (subst (λ (os : List PoolOption). (more ≡ true) ⊎ IsPlainPool pool os) e p.2) q.2 q.3)
+        | inl q ↦ p.3 ∙ sym q.3
+        | inr q ↦ let e : p.0 ≡ q.0 = ok_same (options_one [] (drop at words) (Ok p.0) (Ok q.0) p.1 q.1) in
+            absurd (unserved more pool q.0 (subst (λ (os : List PoolOption). (more ≡ true) ⊎ IsPlainPool pool os) e p.2) q.2 q.3)
       ]
     ]
     | inr p ↦ elim k [
-      | inl q ↦ absurd (not_both (options_one [] (drop at words) (Ok p.0.items) (Err q.0) p.1 q.1))
+      | inl q ↦ absurd (not_both (options_one [] (drop at words) (Ok p.0) (Err q.0) p.1 q.1))
       | inr r ↦ elim r [
-        | inl q ↦ let e : q.0.items ≡ p.0.items = ok_same (options_one [] (drop at words) (Ok q.0.items) (Ok p.0.items) q.1 p.1) in
-            absurd (unserved more pool p.0.items (subst (λ (os : List PoolOption). (more ≡ true) ⊎ IsPlainPool pool os) e q.2) p.2 p.3)
+        | inl q ↦ let e : q.0 ≡ p.0 = ok_same (options_one [] (drop at words) (Ok q.0) (Ok p.0) q.1 p.1) in
+            absurd (unserved more pool p.0 (subst (λ (os : List PoolOption). (more ≡ true) ⊎ IsPlainPool pool os) e q.2) p.2 p.3)
         | inr q ↦ p.4 ∙ sym q.4
       ]
     ]
@@ -248,7 +244,7 @@ call_line_one more before words one other h k =
     (λ thread. then_one (ReadsPool before) (λ pool. Wraps (act.Call thread pool) (ReadsCall more before)) (pool_one before) (λ pool. wraps_one (act.Call thread pool) (ReadsCall more before) (call_one more before))) words 0 one other h k
 
 key_same : (words : List (List ℕ)) (one other : Keyword) → slice_get words 0 ≡ Some (keyword_text one) → slice_get words 0 ≡ Some (keyword_text other) → one ≡ other
-key_same words one other h k = keyword_same one other (some_same (sym h ∙ k))
+key_same words one other h k = keyword_same one other (same_Some _ _ (sym h ∙ k))
 
 pub words_one : (forms : Forms) (before : Context) (words : List (List ℕ)) (one other : Result Act Refusal) → ReadsWords forms before words one → ReadsWords forms before words other → one ≡ other
 words_one forms before words one other h k = elim h [
@@ -256,13 +252,13 @@ words_one forms before words one other h k = elim h [
     | inl q ↦ let e : p.0 ≡ q.0 = key_same words p.0 q.0 p.1 q.1 in
         keyword_line_one (serves_more forms) before q.0 words one other (subst (λ (key : Keyword). KeywordLine (serves_more forms) before key words one) e p.3) q.3
     | inr r ↦ elim r [
-      | inl q ↦ let e : p.0 ≡ q.0 = key_same words p.0 q.0 p.1 q.1 in absurd (yes_no (serves_keyword forms q.0) (subst (λ (key : Keyword). serves_keyword forms key ≡ true) e p.2) q.2)
+      | inl q ↦ let e : p.0 ≡ q.0 = key_same words p.0 q.0 p.1 q.1 in absurd (true≢false (sym (subst (λ (key : Keyword). serves_keyword forms key ≡ true) e p.2) ∙ q.2))
       | inr r ↦ elim r [ inl q ↦ absurd (q.0 p.0 p.1) | inr q ↦ absurd (q.0 p.0 p.1) ]
     ]
   ]
   | inr s ↦ elim s [
     | inl p ↦ elim k [
-      | inl q ↦ let e : q.0 ≡ p.0 = key_same words q.0 p.0 q.1 p.1 in absurd (yes_no (serves_keyword forms p.0) (subst (λ (key : Keyword). serves_keyword forms key ≡ true) e q.2) p.2)
+      | inl q ↦ let e : q.0 ≡ p.0 = key_same words q.0 p.0 q.1 p.1 in absurd (true≢false (sym (subst (λ (key : Keyword). serves_keyword forms key ≡ true) e q.2) ∙ p.2))
       | inr r ↦ elim r [ inl q ↦ p.3 ∙ sym q.3 | inr r ↦ elim r [ inl q ↦ absurd (q.0 p.0 p.1) | inr q ↦ absurd (q.0 p.0 p.1) ] ]
     ]
     | inr s ↦ elim s [
@@ -270,7 +266,7 @@ words_one forms before words one other h k = elim h [
         | inl q ↦ absurd (p.0 q.0 q.1)
         | inr r ↦ elim r [
           | inl q ↦ absurd (p.0 q.0 q.1)
-          | inr r ↦ elim r [ inl q ↦ p.4 ∙ sym q.4 | inr q ↦ absurd (yes_no (serves_call forms p.1) (q.1 p.1 p.2) p.3) ]
+          | inr r ↦ elim r [ inl q ↦ p.4 ∙ sym q.4 | inr q ↦ absurd (true≢false (sym (q.1 p.1 p.2) ∙ p.3)) ]
         ]
       ]
       | inr p ↦ elim k [
@@ -278,7 +274,7 @@ words_one forms before words one other h k = elim h [
         | inr r ↦ elim r [
           | inl q ↦ absurd (p.0 q.0 q.1)
           | inr r ↦ elim r [
-            | inl q ↦ absurd (yes_no (serves_call forms q.1) (p.1 q.1 q.2) q.3)
+            | inl q ↦ absurd (true≢false (sym (p.1 q.1 q.2) ∙ q.3))
             | inr q ↦ call_line_one (serves_more forms) before words one other p.2 q.2
           ]
         ]

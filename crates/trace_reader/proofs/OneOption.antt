@@ -1,5 +1,5 @@
 -- The options of a pool line are read in one way.
-use Rattle.std.proofs.Common.{◌≡◌, ◌≢◌, ℕ, ◌<◌, ◌≤◌, ◌^◌, inl, inr, Bool, true, false, ◌&&◌, ◌||◌, ◌==◌, List, [], ◌∷◌, ◌++◌, get_or, refl, sym, ◌∙◌, ap, subst, arith}
+use Rattle.std.proofs.Common.{◌≡◌, ◌≢◌, ℕ, ◌<◌, ◌≤◌, ◌^◌, inl, inr, Bool, true, false, ◌&&◌, ◌||◌, ◌==◌, List, [], ◌∷◌, ◌++◌, get_or, refl, sym, ◌∙◌, ap, subst, arith, true≢false}
 use Rattle.std.specs.Prelude.{Result, Ok, Err, Some, None}
 use Rattle.std.specs.List.{list_all}
 use Rattle.std.specs.Fmt.{decimal}
@@ -14,7 +14,7 @@ use Rattle.trace_reader.specs.declared.options.ValueWord.{ValueWord}
 use Rattle.trace_reader.specs.declared.options.ValueWord.TheVariants.{GranValue, RegionValue, SpanValue, VersionValue, ReservedValue}
 use Rattle.trace_reader.specs.Slots.{is_text, is_printable}
 use Rattle.trace_reader.specs.Options.{IsFlagOf, ReadsOption, ReadsOptions, has_option, option_of, value_limit, value_text}
-use Rattle.trace_reader.proofs.OneSlot.{OneWay, ok_same, err_same, not_both, yes_no}
+use Rattle.trace_reader.proofs.OneSlot.{OneWay, ok_same, err_same, not_both}
 
 -- a front and a rest make one word only
 value_same : (one other : ValueWord) (rest more : List ℕ) → value_text one ++ rest ≡ value_text other ++ more → (one ≡ other) × (rest ≡ more)
@@ -68,7 +68,7 @@ value_begins ReservedValue rest = refl
 
 flag_no_value : (word : List ℕ) (option : PoolOption) (value : ValueWord) (rest : List ℕ) → IsFlagOf word (Some option) → word ≡ value_text value ++ rest → ⊥
 flag_no_value word option value rest flag is =
-    yes_no (begins_flag (get_or word 0 0)) (flag_begins word option flag) (ap (λ (w : List ℕ). begins_flag (get_or w 0 0)) is ∙ value_begins value rest)
+    true≢false (sym (flag_begins word option flag) ∙ (ap (λ (w : List ℕ). begins_flag (get_or w 0 0)) is ∙ value_begins value rest))
 
 flag_some_none : (word : List ℕ) (option : PoolOption) → IsFlagOf word (Some option) → IsFlagOf word None → ⊥
 flag_some_none word option is none = elim is [ inl p ↦ none.0 p.0 | inr rest ↦ elim rest [ inl p ↦ none.1 p.0 | inr rest ↦ elim rest [ inl p ↦ none.2 p.0 | inr p ↦ none.3 p.0 ] ] ]
@@ -171,7 +171,7 @@ option_one word one other h k = elim h [
         | inl q ↦ let e : option_of p.0 p.1 ≡ option_of q.0 q.1 = valued_one word p.0 q.0 p.1 q.1 p.2 q.2 p.3 q.3 in cc
         | inr r ↦ elim r [
           | inl q ↦ absurd (value_spelled word p.0 q.0 p.1 q.1 p.2 q.2 p.3 q.3)
-          | inr q ↦ absurd (yes_no (is_text word) (option_readable word p.0 p.1 p.3 p.2) (q.1 p.0 (decimal p.1) p.2))
+          | inr q ↦ absurd (true≢false (sym (option_readable word p.0 p.1 p.3 p.2) ∙ (q.1 p.0 (decimal p.1) p.2)))
         ]
       ]
     ]
@@ -180,14 +180,14 @@ option_one word one other h k = elim h [
         | inl q ↦ absurd (flag_no_value word q.0 p.0 p.1 q.1 p.2)
         | inr r ↦ elim r [
           | inl q ↦ absurd (value_spelled word q.0 p.0 q.1 p.1 q.2 p.2 q.3 p.3)
-          | inr r ↦ elim r [ inl q ↦ p.5 ∙ sym q.5 | inr q ↦ absurd (yes_no (is_text word) p.4 (q.1 p.0 p.1 p.2)) ]
+          | inr r ↦ elim r [ inl q ↦ p.5 ∙ sym q.5 | inr q ↦ absurd (true≢false (sym p.4 ∙ (q.1 p.0 p.1 p.2))) ]
         ]
       ]
       | inr p ↦ elim k [
         | inl q ↦ absurd (flag_some_none word q.0 q.1 p.0)
         | inr r ↦ elim r [
-          | inl q ↦ absurd (yes_no (is_text word) (option_readable word q.0 q.1 q.3 q.2) (p.1 q.0 (decimal q.1) q.2))
-          | inr r ↦ elim r [ inl q ↦ absurd (yes_no (is_text word) q.4 (p.1 q.0 q.1 q.2)) | inr q ↦ p.2 ∙ sym q.2 ]
+          | inl q ↦ absurd (true≢false (sym (option_readable word q.0 q.1 q.3 q.2) ∙ (p.1 q.0 (decimal q.1) q.2)))
+          | inr r ↦ elim r [ inl q ↦ absurd (true≢false (sym q.4 ∙ (p.1 q.0 q.1 q.2))) | inr q ↦ p.2 ∙ sym q.2 ]
         ]
       ]
     ]
@@ -206,13 +206,13 @@ options_one had (word ∷ words) one other h k = elim h [
       | inl q ↦ absurd (not_both (option_one word (Ok p.0) (Err q.0) p.1 q.1))
       | inr r ↦ elim r [
         | inl q ↦ p.3 ∙ sym q.3
-        | inr q ↦ let e : p.0 ≡ q.0 = ok_same (option_one word (Ok p.0) (Ok q.0) p.1 q.1) in absurd (yes_no (has_option had q.0) (subst (λ (o : PoolOption). has_option had o ≡ true) e p.2) q.2)
+        | inr q ↦ let e : p.0 ≡ q.0 = ok_same (option_one word (Ok p.0) (Ok q.0) p.1 q.1) in absurd (true≢false (sym (subst (λ (o : PoolOption). has_option had o ≡ true) e p.2) ∙ q.2))
       ]
     ]
     | inr p ↦ elim k [
       | inl q ↦ absurd (not_both (option_one word (Ok p.0) (Err q.0) p.1 q.1))
       | inr r ↦ elim r [
-        | inl q ↦ let e : p.0 ≡ q.0 = ok_same (option_one word (Ok p.0) (Ok q.0) p.1 q.1) in absurd (yes_no (has_option had q.0) q.2 (subst (λ (o : PoolOption). has_option had o ≡ false) e p.2))
+        | inl q ↦ let e : p.0 ≡ q.0 = ok_same (option_one word (Ok p.0) (Ok q.0) p.1 q.1) in absurd (true≢false (sym q.2 ∙ (subst (λ (o : PoolOption). has_option had o ≡ false) e p.2)))
         | inr q ↦
             let e : p.0 ≡ q.0 = ok_same (option_one word (Ok p.0) (Ok q.0) p.1 q.1) in
             options_one (had ++ q.0 ∷ []) words one other (subst (λ (o : PoolOption). ReadsOptions (had ++ o ∷ []) words one) e p.3) q.3

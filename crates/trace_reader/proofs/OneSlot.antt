@@ -1,13 +1,14 @@
 -- Each word is read in one way in its place.
-use Rattle.std.proofs.Common.{◌≡◌, ℕ, ◌-◌, ◌<◌, ◌≤◌, ◌^◌, ◌⊎◌, inl, inr, Bool, true, false, List, [], ◌∷◌, ◌++◌, get_or, refl, sym, ◌∙◌, ap, subst, arith}
+use Rattle.std.proofs.Common.{◌≡◌, ℕ, ◌-◌, ◌<◌, ◌≤◌, ◌^◌, ◌⊎◌, inl, inr, Bool, true, false, List, [], ◌∷◌, ◌++◌, get_or, refl, sym, ◌∙◌, ap, subst, arith, true≢false}
 use Rattle.std.specs.Prelude.{Result, Ok, Err, Some, None, codes}
 use Rattle.std.specs.Fmt.{decimal}
+use Rattle.std.specs.declared.option.Option.{Option}
+use Rattle.std.proofs.lemmas.Option.{same_Some}
 use Rattle.std.proofs.lemmas.Bool.{cases_lt}
 use Rattle.std.proofs.lemmas.Fmt.{decimal_injective}
 use Rattle.pool_types.specs.declared.values.Place.{Place}
 use Rattle.trace_reader.specs.Laws.{PlacesAreReadBack, RowsAreReadBack}
 use Rattle.trace_reader.specs.declared.refusal.Refusal.{Refusal}
-use Rattle.trace_reader.specs.declared.names.BoundName.{BoundName}
 use Rattle.trace_reader.specs.declared.acts.What.{What}
 use Rattle.trace_reader.specs.declared.acts.What.TheVariants as what
 use Rattle.trace_reader.specs.Names.{IsBoundName, is_name}
@@ -32,15 +33,12 @@ err_same same = cc
 pub not_both : {A : Type 0} {a : A} {f : Refusal} → ◌≡◌ {A = Result A Refusal} (Ok a) (Err f) → ⊥
 not_both same = cc
 
-pub yes_no : (b : Bool) → b ≡ true → b ≡ false → ⊥
-yes_no b is not = let h : true ≡ false = sym is ∙ not in cc
-
 -- numbers
 
 misread_one : (word : List ℕ) (f g : Refusal) → IsMisread word f → IsMisread word g → f ≡ g
 misread_one word f g h k = elim h [
-  | inl p ↦ elim k [ inl q ↦ p.1 ∙ sym q.1 | inr q ↦ absurd (yes_no (is_text word) p.0 q.0) ]
-  | inr p ↦ elim k [ inl q ↦ absurd (yes_no (is_text word) q.0 p.0) | inr q ↦ p.1 ∙ sym q.1 ]
+  | inl p ↦ elim k [ inl q ↦ p.1 ∙ sym q.1 | inr q ↦ absurd (true≢false (sym p.0 ∙ q.0)) ]
+  | inr p ↦ elim k [ inl q ↦ absurd (true≢false (sym q.0 ∙ p.0)) | inr q ↦ p.1 ∙ sym q.1 ]
 ]
 
 pub number_one : (low high : ℕ) → high < 2 ^ 64 → OneWay (ReadsNumber low high)
@@ -56,7 +54,7 @@ size_number : OneWay (ReadsNumber 0 (2 ^ 64 - 1))
 size_number = number_one 0 (2 ^ 64 - 1) (omega arith)
 
 too_great : (all : Bool) (size : ℕ) → (all ≡ true) ⊎ (size ≤ 8128) → all ≡ false → 8128 < size → ⊥
-too_great all size served not great = elim served [ inl is ↦ yes_no all is not | inr small ↦ omega arith ]
+too_great all size served not great = elim served [ inl is ↦ true≢false (sym is ∙ not) | inr small ↦ omega arith ]
 
 size_mixed : (all : Bool) (word : List ℕ) (size : ℕ) (refusal : Refusal) → ReadsSize all word (Ok size) → ReadsSize all word (Err refusal) → ⊥
 size_mixed all word size refusal h k = elim k [
@@ -127,13 +125,10 @@ next_pool_one before word (Err f) (Err g) h k = elim h [
 
 -- names, and what a call is asked of
 
-bound_same : (one other : BoundName) → one.bytes.items ≡ other.bytes.items → one ≡ other
-bound_same one other same = ap (λ (xs : List ℕ). record { bytes = record { items = xs } }) same
-
 pub new_name_one : (before : Context) → OneWay (ReadsNewName before)
-new_name_one before word (Ok a) (Ok b) h k = let e : a ≡ b = bound_same a b (sym h.0 ∙ k.0) in cc
-new_name_one before word (Ok a) (Err f) h k = elim k [ inl q ↦ absurd (yes_no (before.bound word) q.1 h.2) | inr q ↦ absurd (q.0 h.1) ]
-new_name_one before word (Err f) (Ok a) h k = elim h [ inl q ↦ absurd (yes_no (before.bound word) q.1 k.2) | inr q ↦ absurd (q.0 k.1) ]
+new_name_one before word (Ok a) (Ok b) h k = let e : a ≡ b = h.0 ∙ sym k.0 in cc
+new_name_one before word (Ok a) (Err f) h k = elim k [ inl q ↦ absurd (q.1 h.2) | inr q ↦ absurd (q.0 h.1) ]
+new_name_one before word (Err f) (Ok a) h k = elim h [ inl q ↦ absurd (q.1 k.2) | inr q ↦ absurd (q.0 k.1) ]
 new_name_one before word (Err f) (Err g) h k = elim h [
   | inl p ↦ elim k [ inl q ↦ let e : f ≡ g = p.2 ∙ sym q.2 in cc | inr q ↦ absurd (q.0 p.0) ]
   | inr p ↦ elim k [ inl q ↦ absurd (p.0 q.0) | inr q ↦ let e : f ≡ g = p.1 ∙ sym q.1 in cc ]
@@ -164,20 +159,23 @@ place_one one other h k same =
     place_same one other (omega (arith, ap (λ (w : List ℕ). get_or w 1 0) spelled))
     (decimal_injective one.region other.region (omega (arith, h.1)) (omega (arith, k.1)) parts.0) (decimal_injective one.offset other.offset h.2 k.2 parts.1)
 
+none_some : {n : ℕ} → ◌≡◌ {A = Option ℕ} None (Some n) → ⊥
+none_some same = cc
+
 what_mixed : (before : Context) (word : List ℕ) (read : What) (f : Refusal) → ReadsWhat before word (Ok read) → ReadsWhat before word (Err f) → ⊥
 what_mixed before word what.Null f h k = elim k [ inl q ↦ q.0.1 h | inr q ↦ q.0 h ]
-what_mixed before word (what.Name name) f h k = elim k [ inl q ↦ yes_no (before.bound word) h.2 q.1 | inr q ↦ q.1 h.1 ]
+what_mixed before word (what.Name name) f h k = elim k [ inl q ↦ none_some (sym q.1 ∙ h.1) | inr q ↦ q.1 h.0 ]
 what_mixed before word (what.Place place) f h k = elim k [ inl q ↦ name_no_place word place q.0 h.0 | inr q ↦ q.2 place h.1 h.0 ]
 
 pub what_one : (before : Context) → OneWay (ReadsWhat before)
 what_one before word (Ok what.Null) (Ok what.Null) h k = refl
-what_one before word (Ok what.Null) (Ok (what.Name name)) h k = absurd (k.1.1 h)
+what_one before word (Ok what.Null) (Ok (what.Name name)) h k = absurd (k.0.1 h)
 what_one before word (Ok what.Null) (Ok (what.Place place)) h k = absurd (null_no_place word place h k.0)
-what_one before word (Ok (what.Name name)) (Ok what.Null) h k = absurd (h.1.1 k)
-what_one before word (Ok (what.Name name)) (Ok (what.Name other)) h k = let e : name ≡ other = bound_same name other (sym h.0 ∙ k.0) in cc
-what_one before word (Ok (what.Name name)) (Ok (what.Place place)) h k = absurd (name_no_place word place h.1 k.0)
+what_one before word (Ok (what.Name name)) (Ok what.Null) h k = absurd (h.0.1 k)
+what_one before word (Ok (what.Name name)) (Ok (what.Name other)) h k = let e : name ≡ other = same_Some _ _ (sym h.1 ∙ k.1) in cc
+what_one before word (Ok (what.Name name)) (Ok (what.Place place)) h k = absurd (name_no_place word place h.0 k.0)
 what_one before word (Ok (what.Place place)) (Ok what.Null) h k = absurd (null_no_place word place k h.0)
-what_one before word (Ok (what.Place place)) (Ok (what.Name name)) h k = absurd (name_no_place word place k.1 h.0)
+what_one before word (Ok (what.Place place)) (Ok (what.Name name)) h k = absurd (name_no_place word place k.0 h.0)
 what_one before word (Ok (what.Place place)) (Ok (what.Place other)) h k = let e : place ≡ other = place_one place other h.1 k.1 (sym h.0 ∙ k.0) in cc
 what_one before word (Ok read) (Err f) h k = absurd (what_mixed before word read f h k)
 what_one before word (Err f) (Ok read) h k = absurd (what_mixed before word read f k h)

@@ -1,18 +1,19 @@
 -- Each text is read in one way.
-use Rattle.std.proofs.Common.{◌≡◌, ℕ, ◌+◌, inl, inr, List, [], ◌∷◌, ◌++◌, refl, sym, ◌∙◌, ap, subst, arith}
+use Rattle.std.proofs.Common.{◌≡◌, ℕ, ◌+◌, inl, inr, List, [], ◌∷◌, ◌++◌, refl, sym, ◌∙◌, ap, subst, arith, true≢false}
 use Rattle.std.specs.Prelude.{Result, Ok, Err, Some, None}
 use Rattle.std.specs.declared.option.Option.{Option}
+use Rattle.std.proofs.lemmas.Option.{same_Some}
 use Rattle.trace_reader.specs.Laws.{TracesAreClear}
 use Rattle.trace_reader.specs.declared.refusal.Refusal.{Refusal}
 use Rattle.trace_reader.specs.declared.acts.Forms.{Forms}
 use Rattle.trace_reader.specs.declared.acts.Act.{Act}
 use Rattle.trace_reader.specs.Words.{words_of}
 use Rattle.trace_reader.specs.Contexts.{Context}
-use Rattle.trace_reader.specs.Acts.{after_words}
+use Rattle.trace_reader.specs.Acts.{Enters}
 use Rattle.trace_reader.specs.Text.{Outcome, FirstRefused, ReadsLine, ReadsLines, behind, is_skipped, nothing_yet}
-use Rattle.trace_reader.proofs.OneSlot.{ok_same, err_same, not_both, yes_no}
+use Rattle.trace_reader.proofs.OneSlot.{ok_same, err_same, not_both}
 use Rattle.trace_reader.proofs.OneLine.{words_one}
-use Rattle.trace_reader.proofs.OneWord.{some_same}
+use Rattle.trace_reader.proofs.EnterLemmas.{enters_one}
 
 line_one : (forms : Forms) (before : Context) (number : ℕ) (text : List ℕ) (one other : Result (Option Act) Refusal) → ReadsLine forms before number text one → ReadsLine forms before number text other → one ≡ other
 line_one forms before number text one other h k = elim h [
@@ -30,7 +31,7 @@ line_one forms before number text one other h k = elim h [
         | inl q ↦ absurd (omega (arith, p.0, q.0))
         | inr r ↦ elim r [
           | inl q ↦ absurd (omega (arith, p.1, q.1))
-          | inr r ↦ elim r [ inl q ↦ p.3 ∙ sym q.3 | inr r ↦ elim r [ inl q ↦ absurd (yes_no (is_skipped text) p.2 q.2) | inr q ↦ absurd (yes_no (is_skipped text) p.2 q.2) ] ]
+          | inr r ↦ elim r [ inl q ↦ p.3 ∙ sym q.3 | inr r ↦ elim r [ inl q ↦ absurd (true≢false (sym p.2 ∙ q.2)) | inr q ↦ absurd (true≢false (sym p.2 ∙ q.2)) ] ]
         ]
       ]
       | inr s ↦ elim s [
@@ -39,7 +40,7 @@ line_one forms before number text one other h k = elim h [
           | inr r ↦ elim r [
             | inl q ↦ absurd (omega (arith, p.1, q.1))
             | inr r ↦ elim r [
-              | inl q ↦ absurd (yes_no (is_skipped text) q.2 p.2)
+              | inl q ↦ absurd (true≢false (sym q.2 ∙ p.2))
               | inr r ↦ elim r [
                 | inl q ↦ let e : p.3 ≡ q.3 = err_same (words_one forms before (words_of text) (Err p.3) (Err q.3) p.4 q.4) in cc
                 | inr q ↦ absurd (not_both (words_one forms before (words_of text) (Ok q.3) (Err p.3) q.4 p.4))
@@ -52,7 +53,7 @@ line_one forms before number text one other h k = elim h [
           | inr r ↦ elim r [
             | inl q ↦ absurd (omega (arith, p.1, q.1))
             | inr r ↦ elim r [
-              | inl q ↦ absurd (yes_no (is_skipped text) q.2 p.2)
+              | inl q ↦ absurd (true≢false (sym q.2 ∙ p.2))
               | inr r ↦ elim r [
                 | inl q ↦ absurd (not_both (words_one forms before (words_of text) (Ok p.3) (Err q.3) p.4 q.4))
                 | inr q ↦ let e : p.3 ≡ q.3 = ok_same (words_one forms before (words_of text) (Ok p.3) (Ok q.3) p.4 q.4) in cc
@@ -76,24 +77,25 @@ lines_one forms before number [] last one other h k = elim h [
 lines_one forms before number (text ∷ texts) last one other h k = elim h [
   | inl p ↦ elim k [
     | inl q ↦ let e : p.0 ≡ q.0 = err_same (line_one forms before number text (Err p.0) (Err q.0) p.1 q.1) in p.2 ∙ ap (λ (f : Refusal). FirstRefused number f) e ∙ sym q.2
-    | inr r ↦ elim r [ inl q ↦ absurd (not_both (line_one forms before number text (Ok None) (Err p.0) q.0 p.1)) | inr q ↦ absurd (not_both (line_one forms before number text (Ok (Some q.0)) (Err p.0) q.2 p.1)) ]
+    | inr r ↦ elim r [ inl q ↦ absurd (not_both (line_one forms before number text (Ok None) (Err p.0) q.0 p.1)) | inr q ↦ absurd (not_both (line_one forms before number text (Ok (Some q.0)) (Err p.0) q.3 p.1)) ]
   ]
   | inr s ↦ elim s [
     | inl p ↦ elim k [
       | inl q ↦ absurd (not_both (line_one forms before number text (Ok None) (Err q.0) p.0 q.1))
       | inr r ↦ elim r [
         | inl q ↦ lines_one forms before (number + 1) texts last one other p.1 q.1
-        | inr q ↦ absurd (none_some (ok_same (line_one forms before number text (Ok None) (Ok (Some q.0)) p.0 q.2)))
+        | inr q ↦ absurd (none_some (ok_same (line_one forms before number text (Ok None) (Ok (Some q.0)) p.0 q.3)))
       ]
     ]
     | inr p ↦ elim k [
-      | inl q ↦ absurd (not_both (line_one forms before number text (Ok (Some p.0)) (Err q.0) p.2 q.1))
+      | inl q ↦ absurd (not_both (line_one forms before number text (Ok (Some p.0)) (Err q.0) p.3 q.1))
       | inr r ↦ elim r [
-        | inl q ↦ absurd (none_some (ok_same (line_one forms before number text (Ok None) (Ok (Some p.0)) q.0 p.2)))
+        | inl q ↦ absurd (none_some (ok_same (line_one forms before number text (Ok None) (Ok (Some p.0)) q.0 p.3)))
         | inr q ↦
-            let e : p.0 ≡ q.0 = some_same (ok_same (line_one forms before number text (Ok (Some p.0)) (Ok (Some q.0)) p.2 q.2)) in
-            let rest : p.1 ≡ q.1 = lines_one forms (after_words before (words_of text) q.0) (number + 1) texts last p.1 q.1 (subst (λ (a : Act). ReadsLines forms (after_words before (words_of text) a) (number + 1) texts last p.1) e p.3) q.3 in
-            p.4 ∙ ap (λ (a : Act). behind (record { line = number; act = a } ∷ []) p.1) e ∙ ap (λ (r : Outcome). behind (record { line = number; act = q.0 } ∷ []) r) rest ∙ sym q.4
+            let e : p.0 ≡ q.0 = same_Some _ _ (ok_same (line_one forms before number text (Ok (Some p.0)) (Ok (Some q.0)) p.3 q.3)) in
+            let same : p.1 ≡ q.1 = enters_one before (words_of text) q.0 p.1 q.1 (subst (λ (a : Act). Enters before (words_of text) a p.1) e p.4) q.4 in
+            let rest : p.2 ≡ q.2 = lines_one forms q.1 (number + 1) texts last p.2 q.2 (subst (λ (b : Context). ReadsLines forms b (number + 1) texts last p.2) same p.5) q.5 in
+            p.6 ∙ ap (λ (a : Act). behind (record { line = number; act = a } ∷ []) p.2) e ∙ ap (λ (r : Outcome). behind (record { line = number; act = q.0 } ∷ []) r) rest ∙ sym q.6
       ]
     ]
   ]

@@ -4,6 +4,7 @@ use Rattle.std.specs.Prelude.{Some}
 use Rattle.std.specs.declared.option.Option.{Option}
 use Rattle.std.specs.List.{find}
 use Rattle.std.specs.Str.{bytes_eq}
+use Rattle.std.proofs.lemmas.Option.{same_Some}
 use Rattle.trace_reader.specs.declared.keywords.Keyword.{Keyword}
 use Rattle.trace_reader.specs.declared.keywords.Keyword.TheVariants.{ThreadsWord, PoolWord, RawWord, BeginWord, StepWord, UpToWord, FinishWord, ResetWord, DestroyWord}
 use Rattle.trace_reader.specs.declared.keywords.CallWord.{CallWord}
@@ -11,9 +12,6 @@ use Rattle.trace_reader.specs.declared.keywords.CallWord.TheVariants.{MallocWord
 use Rattle.trace_reader.specs.declared.keywords.ScriptWord.{ScriptWord}
 use Rattle.trace_reader.specs.declared.keywords.ScriptWord.TheVariants.{GetWord, GetFailWord, PutOkWord, PutFailWord}
 use Rattle.trace_reader.specs.Keywords.{keyword_text, call_text, script_text}
-
-pub some_same : {A : Type 0} {a b : A} → ◌≡◌ {A = Option A} (Some a) (Some b) → a ≡ b
-some_same same = cc
 
 -- the first of the keywords that has this text
 keyword_back : List ℕ → Option Keyword
@@ -25,7 +23,7 @@ keyword_found ThreadsWord = refl
 keyword_found one = refl
 
 pub keyword_same : (one other : Keyword) → keyword_text one ≡ keyword_text other → one ≡ other
-keyword_same one other same = some_same (sym (keyword_found one) ∙ ap keyword_back same ∙ keyword_found other)
+keyword_same one other same = same_Some _ _ (sym (keyword_found one) ∙ ap keyword_back same ∙ keyword_found other)
 
 -- the first of the calls that has this text
 call_back : List ℕ → Option CallWord
@@ -37,7 +35,7 @@ call_found MallocWord = refl
 call_found one = refl
 
 pub call_same : (one other : CallWord) → call_text one ≡ call_text other → one ≡ other
-call_same one other same = some_same (sym (call_found one) ∙ ap call_back same ∙ call_found other)
+call_same one other same = same_Some _ _ (sym (call_found one) ∙ ap call_back same ∙ call_found other)
 
 -- the first of the scripts' entries that has this text
 script_back : List ℕ → Option ScriptWord
@@ -49,4 +47,4 @@ script_found GetWord = refl
 script_found one = refl
 
 pub script_same : (one other : ScriptWord) → script_text one ≡ script_text other → one ≡ other
-script_same one other same = some_same (sym (script_found one) ∙ ap script_back same ∙ script_found other)
+script_same one other same = same_Some _ _ (sym (script_found one) ∙ ap script_back same ∙ script_found other)

@@ -1,15 +1,17 @@
 -- Options that are all of other places.
-use Rattle.std.proofs.Common.{◌≡◌, ℕ, add-one, drop, drop-cons, get_or, Vec, Global, ◌+◌, ◌<◌, ◌≤◌, ◌⊎◌, inl, inr, Bool, true, false, ◌||◌, List, [], ◌∷◌, ◌++◌, length, map, rules, refl, sym, ◌∙◌, ap, subst, arith}
+use Rattle.std.proofs.Common.{◌≡◌, ℕ, add-one, drop, drop-cons, get_or, ◌+◌, ◌<◌, ◌≤◌, ◌⊎◌, inl, inr, Bool, true, false, ◌||◌, List, [], ◌∷◌, ◌++◌, length, map, rules, refl, sym, ◌∙◌, ap, subst, arith}
 use Rattle.std.specs.Prelude.{nat_eq, Result, Ok, Err}
+use Rattle.std.specs.Borrow.{Bor}
 use Rattle.std.specs.List.{drop-map}
 use Rattle.trace_reader.specs.declared.refusal.Refusal.{Refusal}
 use Rattle.trace_reader.specs.declared.refusal.Refusal.TheVariants.{PoolOrder}
-use Rattle.trace_reader.specs.Words.{items_of}
+use Rattle.trace_reader.specs.Words.{bytes_in}
 use Rattle.std.specs.List.{list_any, IsDistinct}
 use Rattle.std.proofs.lemmas.Cmp.{nat_eq_equiv}
 use Rattle.std.proofs.lemmas.List.{map-append, length-map, length-append}
 use Rattle.std.proofs.lemmas.Map.Keys.{IsDistinct-push}
 use Rattle.std.proofs.lemmas.Map.Steps.{length-le_from_distinct_below}
+use Rattle.std.proofs.lemmas.Bool.{or_cases}
 use Rattle.std.proofs.lemmas.Bool.Decides.{Decides-eqb}
 use Rattle.trace_reader.specs.declared.acts.PoolOption.{PoolOption}
 use Rattle.trace_reader.specs.declared.acts.PoolOption.TheVariants.{Fixed}
@@ -19,13 +21,9 @@ option_place-lt : (option : PoolOption) → option_place option < 9
 option_place-lt Fixed = omega arith
 option_place-lt option = omega arith
 
-one_of_two : (a b : Bool) → (a || b) ≡ true → (a ≡ true) ⊎ (b ≡ true)
-one_of_two true b is = inl refl
-one_of_two false b is = inr is
-
 places_below : (options : List PoolOption) (q : ℕ) → list_any (nat_eq q) (map option_place options) ≡ true → q < 9
 places_below [] q is = let h : false ≡ true = is in absurd (cc)
-places_below (option ∷ options) q is = elim (one_of_two (nat_eq q (option_place option)) (list_any (nat_eq q) (map option_place options)) is)
+places_below (option ∷ options) q is = elim (or_cases (nat_eq q (option_place option)) (list_any (nat_eq q) (map option_place options)) is)
     [ inl here ↦ subst (λ (n : ℕ). n < 9) (sym ((Decides-eqb q (option_place option)).0 here)) (option_place-lt option) | inr there ↦ places_below options q there ]
 
 -- no two of the options have one place
@@ -55,14 +53,15 @@ AreApart-length options are = omega (arith, length-map options option_place, len
 pub room_for : (options : List PoolOption) (option : PoolOption) → AreApart options → has_option options option ≡ false → length options < 9
 room_for options option are new = omega (arith, AreApart-length (options ++ option ∷ []) (AreApart-more options option are new), length-append options (option ∷ []))
 
+-- what a list of words has behind its end
+abbrev pub no_word : Bor (List ℕ)
+no_word = record { ref_ptr = (0, 0); now = [] }
+
 -- the words from a place on begin with the word there
-pub words_from : (words : List (Vec ℕ Global)) (i : ℕ) (word : Vec ℕ Global) (text : List ℕ) → i < length words → text ≡ word.items → word ≡ get_or words i word →
-    drop i (map items_of words) ≡ text ∷ drop (i + 1) (map items_of words)
-words_from words i word text below is there =
-    let cut : drop i words ≡ get_or words i word ∷ drop (i + 1) words = rw add-one (drop-cons words i word below) in
-    let head : items_of (get_or words i word) ≡ text = ap items_of (sym there) ∙ sym is in
-    drop-map items_of i words ∙ ap (map items_of) cut ∙ ap (λ (w : List ℕ). w ∷ map items_of (drop (i + 1) words)) head
-    ∙ ap (λ (ws : List (List ℕ)). text ∷ ws) (sym (drop-map items_of (i + 1) words))
+pub words_from : (words : List (Bor (List ℕ))) (i : ℕ) → i < length words → drop i (map bytes_in words) ≡ (get_or words i no_word).now ∷ drop (i + 1) (map bytes_in words)
+words_from words i below =
+    let cut : drop i words ≡ get_or words i no_word ∷ drop (i + 1) words = rw add-one (drop-cons words i no_word below) in
+    drop-map bytes_in i words ∙ ap (map bytes_in) cut ∙ ap (λ (ws : List (List ℕ)). (get_or words i no_word).now ∷ ws) (sym (drop-map bytes_in (i + 1) words))
 
 -- one word of a pool line was refused
 pub option_refused : (had : List PoolOption) (words rest : List (List ℕ)) (word : List ℕ) (refusal : Refusal) → words ≡ word ∷ rest → ReadsOption word (Err refusal) → ReadsOptions had words (Err refusal)

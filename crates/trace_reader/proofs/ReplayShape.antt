@@ -1,12 +1,11 @@
 -- The shape of the traces that a replay serves.
-use Rattle.std.proofs.Common.{◌≡◌, ℕ, ◌+◌, ◌<◌, ◌⊎◌, inl, inr, true, false, List, [], ◌∷◌, length, drop, map, refl, sym, ◌∙◌, ap, subst, arith}
+use Rattle.std.proofs.Common.{◌≡◌, ℕ, ◌+◌, ◌<◌, ◌⊎◌, inl, inr, true, false, List, [], ◌∷◌, ◌++◌, length, drop, map, refl, sym, ◌∙◌, ap, subst, arith}
 use Rattle.std.specs.Prelude.{Ok, Some, None, slice_get}
 use Rattle.std.specs.declared.option.Option.{Option}
 use Rattle.arrayvec.specs.ArrayVec.{ArrayVec}
 use Rattle.std.proofs.lemmas.Option.{slice_get_within}
 use Rattle.pool_types.specs.declared.texts.ThreadName.{ThreadName}
 use Rattle.trace_reader.specs.Laws.{ReplaysHaveOneShape}
-use Rattle.trace_reader.specs.declared.names.BoundName.{BoundName}
 use Rattle.trace_reader.specs.declared.acts.Forms.TheVariants as forms
 use Rattle.trace_reader.specs.declared.acts.PoolOption.{PoolOption}
 use Rattle.trace_reader.specs.declared.acts.TraceCall.{TraceCall}
@@ -19,13 +18,16 @@ use Rattle.trace_reader.specs.declared.keywords.CallWord.{CallWord}
 use Rattle.trace_reader.specs.Combinators.{Then}
 use Rattle.trace_reader.specs.Contexts.{Context}
 use Rattle.trace_reader.specs.Slots.{ReadsNextPool, ReadsPool, ReadsThread}
-use Rattle.trace_reader.specs.Acts.{CallLine, Calls, IsPlainPool, KeywordLine, PoolOptions, ReadsCall, ReadsCallWord, ReadsNames, ReadsWords, ThreadsLine, after_words, bound_by, serves_call, serves_keyword, with_bound}
+use Rattle.trace_reader.specs.Acts.{CallLine, Calls, IsPlainPool, KeywordLine, PoolOptions, ReadsCall, ReadsCallWord, ReadsNames, ReadsWords, ThreadsLine, Enters, bound_by, serves_call, serves_keyword, with_bound, with_pool, word_in}
 use Rattle.pool_types.specs.Texts.{name_bytes}
 use Rattle.trace_reader.specs.Text.{nothing_yet}
-use Rattle.trace_reader.specs.Served.{AreServed, AreServedCalls, IsServedCall, act_of, plain_pool}
+use Rattle.trace_reader.specs.Options.{ReadsOptions}
+use Rattle.trace_reader.specs.Served.{AreServed, AreServedCalls, IsServedCall, act_of, plain_options, plain_pool}
 use Rattle.trace_reader.proofs.ContextLemmas.{word_read}
 use Rattle.trace_reader.proofs.OneSlot.{ok_same, not_both}
 use Rattle.trace_reader.proofs.ServedLaws.{Follow, lines_follow}
+use Rattle.trace_reader.proofs.EnterLemmas.{vec_same}
+use Rattle.trace_reader.proofs.OneOption.{options_one}
 use Rattle.trace_reader.proofs.CallForms.{IsSmallCall, binding_small, plain_small}
 
 -- one line that a replay serves
@@ -33,14 +35,15 @@ use Rattle.trace_reader.proofs.CallForms.{IsSmallCall, binding_small, plain_smal
 -- the line names the one thread
 record NamesThread (before : Context) (words : List (List ℕ)) (deed : Act) : Type 0 where
   unnamed : before.names ≡ []
-  unmade : before.pools ≡ 0
+  unmade : before.pools ≡ []
   name : List ℕ
   named : drop 1 words ≡ name ∷ []
   does : deed ≡ act.Threads
 
 -- the line makes the pool
-record MakesPool (before : Context) (deed : Act) : Type 0 where
-  unmade : before.pools ≡ 0
+record MakesPool (before : Context) (words : List (List ℕ)) (deed : Act) : Type 0 where
+  unmade : before.pools ≡ []
+  options : ReadsOptions [] (drop 2 words) (Ok plain_options.items)
   does : deed ≡ plain_pool
 
 -- the line makes a call that is served
@@ -49,7 +52,7 @@ record MakesCall (before : Context) (deed : Act) : Type 0 where
   pool : ℕ
   call : TraceCall
   known : thread < length before.names
-  made : pool < before.pools
+  made : pool < length before.pools
   served : IsServedCall call
   does : deed ≡ act.Call thread pool call
 
@@ -74,28 +77,29 @@ threads_line before words deed read = elim read [
   | inr refused ↦ absurd (not_both refused.1)
 ]
 
-made_plain : (pool : ℕ) (options : ArrayVec PoolOption) → IsPlainPool pool options.items → act.Pool pool options ≡ plain_pool
-made_plain pool options plain = ap (λ (n : ℕ). act.Pool n options) plain.0 ∙ ap (λ (os : List PoolOption). act.Pool 0 (record { items = os })) plain.1
-
-options_line : (pool : ℕ) (words : List (List ℕ)) (at : ℕ) (deed : Act) → PoolOptions false pool words at (Ok deed) → (pool ≡ 0) × (deed ≡ plain_pool)
+options_line : (pool : ℕ) (words : List (List ℕ)) (at : ℕ) (deed : Act) → PoolOptions false pool words at (Ok deed) → (pool ≡ 0) × ReadsOptions [] (drop at words) (Ok plain_options.items) × (deed ≡ plain_pool)
 options_line pool words at deed read = elim read [
   | inl refused ↦ absurd (not_both refused.2)
   | inr rest ↦ elim rest [
     | inl made ↦ elim made.2 [
       | inl more ↦ let h : false ≡ true = more in absurd (cc)
-      | inr plain ↦ (plain.0, ok_same made.3 ∙ made_plain pool made.0 plain)
+      | inr plain ↦ (plain.0, subst (λ (os : List PoolOption). ReadsOptions [] (drop at words) (Ok os)) plain.1 made.1, ok_same made.3 ∙ ap (λ (n : ℕ). act.Pool n) plain.0)
     ]
     | inr unserved ↦ absurd (not_both unserved.4)
   ]
 ]
 
-pool_line : (before : Context) (words : List (List ℕ)) (deed : Act) → Then (ReadsNextPool before) (PoolOptions false) words 1 (Ok deed) → MakesPool before deed
+no_length : (pools : List (ArrayVec PoolOption)) → length pools ≡ 0 → pools ≡ []
+no_length [] same = refl
+no_length (pool ∷ pools) same = absurd (omega arith)
+
+pool_line : (before : Context) (words : List (List ℕ)) (deed : Act) → Then (ReadsNextPool before) (PoolOptions false) words 1 (Ok deed) → MakesPool before words deed
 pool_line before words deed read = elim read [
   | inl refused ↦ absurd (not_both refused.2)
   | inr went ↦
       let next = (word_read (ReadsNextPool before) (slice_get words 1) went.0 went.1).2 in
       let made = options_line went.0 words 2 deed went.2 in
-      record { unmade = sym next.1 ∙ made.0; does = made.1 }
+      record { unmade = no_length before.pools (sym next.1 ∙ made.0); options = made.1; does = made.2 }
 ]
 
 some_ap : {one other : List ℕ} → one ≡ other → ◌≡◌ {A = Option (List ℕ)} (Some one) (Some other)
@@ -148,7 +152,7 @@ call_line before words deed served read = elim read [
 
 -- what a line that a replay serves does
 ServedLine : Context → List (List ℕ) → Act → Type 0
-ServedLine before words deed = NamesThread before words deed ⊎ MakesPool before deed ⊎ MakesCall before deed
+ServedLine before words deed = NamesThread before words deed ⊎ MakesPool before words deed ⊎ MakesCall before deed
 
 keyword_line : (before : Context) (key : Keyword) (words : List (List ℕ)) (deed : Act) → serves_keyword forms.Replay key ≡ true → KeywordLine false before key words (Ok deed) → ServedLine before words deed
 unfolding ServedLine
@@ -177,95 +181,107 @@ served_line before words deed read = elim read [
 
 -- what stands before the next line
 
-bound_names : (before : Context) (name : Option BoundName) → (with_bound before name).names ≡ before.names
-bound_names before None = refl
-bound_names before (Some name) = refl
+bound_names : (before : Context) (number : Option ℕ) (word : List ℕ) → (with_bound before number word).names ≡ before.names
+bound_names before None word = refl
+bound_names before (Some number) word = refl
 
-bound_pools : (before : Context) (name : Option BoundName) → (with_bound before name).pools ≡ before.pools
-bound_pools before None = refl
-bound_pools before (Some name) = refl
+bound_pools : (before : Context) (number : Option ℕ) (word : List ℕ) → (with_bound before number word).pools ≡ before.pools
+bound_pools before None word = refl
+bound_pools before (Some number) word = refl
 
--- the names of the threads and the number of pools
-record Stands (before : Context) (names : List (List ℕ)) (pools : ℕ) : Type 0 where
+-- the names of the threads and the options of the pools
+record Stands (before : Context) (names : List (List ℕ)) (pools : List (ArrayVec PoolOption)) : Type 0 where
   named : before.names ≡ names
   made : before.pools ≡ pools
 
-after_threads : (before : Context) (words : List (List ℕ)) (deed : Act) → (is : NamesThread before words deed) → Stands (after_words before words deed) (is.name ∷ []) 0
-after_threads before words deed is = subst (λ (d : Act). Stands (after_words before words d) (is.name ∷ []) 0) (sym is.does) (record { named = is.named; made = is.unmade })
+same_stands : (one other : Context) (names : List (List ℕ)) (pools : List (ArrayVec PoolOption)) → one ≡ other → Stands other names pools → Stands one names pools
+same_stands one other names pools same stands = subst (λ (context : Context). Stands context names pools) (sym same) stands
 
-after_pool : (before : Context) (names : List (List ℕ)) (words : List (List ℕ)) (deed : Act) → before.names ≡ names → MakesPool before deed → Stands (after_words before words deed) names 1
-after_pool before names words deed named is = subst (λ (d : Act). Stands (after_words before words d) names 1) (sym is.does) (record { named = named; made = ap (λ (n : ℕ). n + 1) is.unmade })
+after_threads : (before next : Context) (words : List (List ℕ)) (deed : Act) → (is : NamesThread before words deed) → Enters before words deed next → Stands next (is.name ∷ []) []
+after_threads before next words deed is enters =
+    let moved : Enters before words act.Threads next = subst (λ (d : Act). Enters before words d next) is.does enters in
+    same_stands next (record before { names = drop 1 words }) (is.name ∷ []) [] moved (record { named = is.named; made = is.unmade })
 
-after_call : (before : Context) (names : List (List ℕ)) (pools : ℕ) (words : List (List ℕ)) (deed : Act) → Stands before names pools → MakesCall before deed → Stands (after_words before words deed) names pools
-after_call before names pools words deed stands is =
-    subst (λ (d : Act). Stands (after_words before words d) names pools) (sym is.does) (record { named = bound_names before (bound_by is.call) ∙ stands.named; made = bound_pools before (bound_by is.call) ∙ stands.made })
+after_pool : (before next : Context) (names : List (List ℕ)) (words : List (List ℕ)) (deed : Act) → before.names ≡ names → MakesPool before words deed → Enters before words deed next → Stands next names (plain_options ∷ [])
+after_pool before next names words deed named is enters =
+    let moved : Enters before words plain_pool next = subst (λ (d : Act). Enters before words d next) is.does enters in
+    let plain : moved.0 ≡ plain_options = vec_same moved.0 plain_options (ok_same (options_one [] (drop 2 words) (Ok moved.0.items) (Ok plain_options.items) moved.1 is.options)) in
+    same_stands next (with_pool before moved.0) names (plain_options ∷ []) moved.2
+    (record { named = named; made = ap (λ (ps : List (ArrayVec PoolOption)). ps ++ moved.0 ∷ []) is.unmade ∙ ap (λ (os : ArrayVec PoolOption). os ∷ []) plain })
+
+after_call : (before next : Context) (names : List (List ℕ)) (pools : List (ArrayVec PoolOption)) (words : List (List ℕ)) (deed : Act) → Stands before names pools → MakesCall before deed → Enters before words deed next →
+    Stands next names pools
+after_call before next names pools words deed stands is enters =
+    let moved : Enters before words (act.Call is.thread is.pool is.call) next = subst (λ (d : Act). Enters before words d next) is.does enters in
+    same_stands next (with_bound before (bound_by is.call) (word_in words 2)) names pools moved
+    (record { named = bound_names before (bound_by is.call) (word_in words 2) ∙ stands.named; made = bound_pools before (bound_by is.call) (word_in words 2) ∙ stands.made })
 
 -- a list with an item is not empty
 nil_cons : {A : Type 0} {x : A} {xs : List A} → ◌≡◌ {A = List A} [] (x ∷ xs) → ⊥
 nil_cons same = cc
 
-no_thread : (before : Context) (pools : ℕ) (deed : Act) → Stands before [] pools → MakesCall before deed → ⊥
+no_thread : (before : Context) (pools : List (ArrayVec PoolOption)) (deed : Act) → Stands before [] pools → MakesCall before deed → ⊥
 no_thread before pools deed stands is = absurd (omega (arith, is.known, ap length stands.named))
 
-no_pool : (before : Context) (names : List (List ℕ)) (deed : Act) → Stands before names 0 → MakesCall before deed → ⊥
-no_pool before names deed stands is = absurd (omega (arith, is.made, stands.made))
+no_pool : (before : Context) (names : List (List ℕ)) (deed : Act) → Stands before names [] → MakesCall before deed → ⊥
+no_pool before names deed stands is = absurd (omega (arith, is.made, ap length stands.made))
 
-one_pool : (before : Context) (names : List (List ℕ)) (deed : Act) → Stands before names 1 → MakesPool before deed → ⊥
-one_pool before names deed stands is = absurd (omega (arith, is.unmade, stands.made))
+one_pool : (before : Context) (names words : List (List ℕ)) (deed : Act) → Stands before names (plain_options ∷ []) → MakesPool before words deed → ⊥
+one_pool before names words deed stands is = nil_cons (sym is.unmade ∙ stands.made)
 
-named_before : (before : Context) (name : List ℕ) (pools : ℕ) (words : List (List ℕ)) (deed : Act) → Stands before (name ∷ []) pools → NamesThread before words deed → ⊥
+named_before : (before : Context) (name : List ℕ) (pools : List (ArrayVec PoolOption)) (words : List (List ℕ)) (deed : Act) → Stands before (name ∷ []) pools → NamesThread before words deed → ⊥
 named_before before name pools words deed stands is = nil_cons (sym is.unnamed ∙ stands.named)
 
-made_before : (before : Context) (names words : List (List ℕ)) (deed : Act) → Stands before names 1 → NamesThread before words deed → ⊥
-made_before before names words deed stands is = absurd (omega (arith, is.unmade, stands.made))
+made_before : (before : Context) (names words : List (List ℕ)) (deed : Act) → Stands before names (plain_options ∷ []) → NamesThread before words deed → ⊥
+made_before before names words deed stands is = nil_cons (sym is.unmade ∙ stands.made)
 
 -- the lines that follow, by what stands before
 
--- names that were read, and lines of calls
-record AreCalls (name : List ℕ) (lines : List TraceLine) (names : List (List ℕ)) : Type 0 where
-  named : names ≡ name ∷ []
+-- what stands behind lines of calls
+record AreCalls (name : List ℕ) (lines : List TraceLine) (last : Context) : Type 0 where
+  stands : Stands last (name ∷ []) (plain_options ∷ [])
   calls : AreServedCalls (map act_of lines)
 
-calls_follow : (before : Context) (least : ℕ) (name : List ℕ) (lines : List TraceLine) (names : List (List ℕ)) → Stands before (name ∷ []) 1 → Follow forms.Replay before least lines names → AreCalls name lines names
+calls_follow : (before : Context) (least : ℕ) (name : List ℕ) (lines : List TraceLine) (last : Context) → Stands before (name ∷ []) (plain_options ∷ []) → Follow forms.Replay before least lines last → AreCalls name lines last
 unfolding Follow ServedLine
-calls_follow before least name [] names stands follow = record { named = follow ∙ stands.named; calls = tt }
-calls_follow before least name (line ∷ lines) names stands follow = elim (served_line before follow.0 line.act follow.1.read) [
-  | inl threads ↦ absurd (named_before before name 1 follow.0 line.act stands threads)
+calls_follow before least name [] last stands follow = record { stands = same_stands last before (name ∷ []) (plain_options ∷ []) follow stands; calls = tt }
+calls_follow before least name (line ∷ lines) last stands follow = elim (served_line before follow.0 line.act follow.2.read) [
+  | inl threads ↦ absurd (named_before before name (plain_options ∷ []) follow.0 line.act stands threads)
   | inr rest ↦ elim rest [
-    | inl pool ↦ absurd (one_pool before (name ∷ []) line.act stands pool)
+    | inl pool ↦ absurd (one_pool before (name ∷ []) follow.0 line.act stands pool)
     | inr is ↦
-        let more : AreCalls name lines names = calls_follow (after_words before follow.0 line.act) (line.line + 1) name lines names (after_call before (name ∷ []) 1 follow.0 line.act stands is) follow.2 in
+        let more : AreCalls name lines last = calls_follow follow.1 (line.line + 1) name lines last (after_call before follow.1 (name ∷ []) (plain_options ∷ []) follow.0 line.act stands is follow.3) follow.4 in
         record {
-          named = more.named;
+          stands = more.stands;
           calls = subst (λ (d : Act). AreServedCalls (d ∷ map act_of lines)) (sym is.does)
-              (omega (arith, is.known, ap length stands.named), omega (arith, is.made, stands.made), is.served, more.calls);
+              (omega (arith, is.known, ap length stands.named), omega (arith, is.made, ap length stands.made), is.served, more.calls);
         }
   ]
 ]
 
 -- no line follows the pool's line where no thread is named
-none_follow : (before : Context) (least : ℕ) (lines : List TraceLine) (names : List (List ℕ)) → Stands before [] 1 → Follow forms.Replay before least lines names → (names ≡ []) × (lines ≡ [])
+none_follow : (before : Context) (least : ℕ) (lines : List TraceLine) (last : Context) → Stands before [] (plain_options ∷ []) → Follow forms.Replay before least lines last → Stands last [] (plain_options ∷ []) × (lines ≡ [])
 unfolding Follow ServedLine
-none_follow before least [] names stands follow = (follow ∙ stands.named, refl)
-none_follow before least (line ∷ lines) names stands follow = elim (served_line before follow.0 line.act follow.1.read) [
+none_follow before least [] last stands follow = (same_stands last before [] (plain_options ∷ []) follow stands, refl)
+none_follow before least (line ∷ lines) last stands follow = elim (served_line before follow.0 line.act follow.2.read) [
   | inl threads ↦ absurd (made_before before [] follow.0 line.act stands threads)
-  | inr rest ↦ elim rest [ inl pool ↦ absurd (one_pool before [] line.act stands pool) | inr is ↦ absurd (no_thread before 1 line.act stands is) ]
+  | inr rest ↦ elim rest [ inl pool ↦ absurd (one_pool before [] follow.0 line.act stands pool) | inr is ↦ absurd (no_thread before (plain_options ∷ []) line.act stands is) ]
 ]
 
--- the lines behind the one that names the thread
-record AreNamed (name : List ℕ) (lines : List TraceLine) (names : List (List ℕ)) : Type 0 where
-  named : names ≡ name ∷ []
-  acts : (map act_of lines ≡ []) ⊎ ((calls : List Act) × (map act_of lines ≡ plain_pool ∷ calls) × AreServedCalls calls)
+-- the lines behind the one that names the thread: none, or the pool's line and then calls
+ActsNamed : List ℕ → List TraceLine → Context → Type 0
+ActsNamed name lines last = (Stands last (name ∷ []) [] × (map act_of lines ≡ []))
+    ⊎ ((calls : List Act) × Stands last (name ∷ []) (plain_options ∷ []) × (map act_of lines ≡ plain_pool ∷ calls) × AreServedCalls calls)
 
-named_follow : (before : Context) (least : ℕ) (name : List ℕ) (lines : List TraceLine) (names : List (List ℕ)) → Stands before (name ∷ []) 0 → Follow forms.Replay before least lines names → AreNamed name lines names
-unfolding Follow ServedLine
-named_follow before least name [] names stands follow = record { named = follow ∙ stands.named; acts = inl refl }
-named_follow before least name (line ∷ lines) names stands follow = elim (served_line before follow.0 line.act follow.1.read) [
-  | inl threads ↦ absurd (named_before before name 0 follow.0 line.act stands threads)
+named_follow : (before : Context) (least : ℕ) (name : List ℕ) (lines : List TraceLine) (last : Context) → Stands before (name ∷ []) [] → Follow forms.Replay before least lines last → ActsNamed name lines last
+unfolding Follow ServedLine ActsNamed
+named_follow before least name [] last stands follow = inl (same_stands last before (name ∷ []) [] follow stands, refl)
+named_follow before least name (line ∷ lines) last stands follow = elim (served_line before follow.0 line.act follow.2.read) [
+  | inl threads ↦ absurd (named_before before name [] follow.0 line.act stands threads)
   | inr rest ↦ elim rest [
     | inl pool ↦
-        let more : AreCalls name lines names = calls_follow (after_words before follow.0 line.act) (line.line + 1) name lines names (after_pool before (name ∷ []) follow.0 line.act stands.named pool) follow.2 in
-        record { named = more.named; acts = inr (map act_of lines, ap (λ (d : Act). d ∷ map act_of lines) pool.does, more.calls) }
+        let more : AreCalls name lines last = calls_follow follow.1 (line.line + 1) name lines last (after_pool before follow.1 (name ∷ []) follow.0 line.act stands.named pool follow.3) follow.4 in
+        inr (map act_of lines, more.stands, ap (λ (d : Act). d ∷ map act_of lines) pool.does, more.calls)
     | inr is ↦ absurd (no_pool before (name ∷ []) line.act stands is)
   ]
 ]
@@ -282,25 +298,33 @@ one_thread name (thread ∷ threads) same =
     let rest : map name_bytes threads ≡ [] = cc in
     (thread, ap (λ (ts : List ThreadName). thread ∷ ts) (no_names threads rest))
 
-all_follow : (lines : List TraceLine) (threads : List ThreadName) → (least : ℕ) → Follow forms.Replay nothing_yet least lines (map name_bytes threads) → AreServed threads (map act_of lines)
-unfolding Follow ServedLine
-all_follow [] threads least follow = inl (no_names threads follow, refl)
-all_follow (line ∷ lines) threads least follow = elim (served_line nothing_yet follow.0 line.act follow.1.read) [
+all_follow : (lines : List TraceLine) (threads : List ThreadName) (pools : List (ArrayVec PoolOption)) (least : ℕ) (last : Context) → map name_bytes threads ≡ last.names → pools ≡ last.pools → Follow forms.Replay nothing_yet least lines last →
+    AreServed threads pools (map act_of lines)
+unfolding Follow ServedLine ActsNamed
+all_follow [] threads pools least last named made follow = inl (
+  no_names threads (named ∙ ap (λ (c : Context). c.names) follow),
+  made ∙ ap (λ (c : Context). c.pools) follow,
+  refl,
+)
+all_follow (line ∷ lines) threads pools least last named made follow = elim (served_line nothing_yet follow.0 line.act follow.2.read) [
   | inl is ↦
-      let more : AreNamed is.name lines (map name_bytes threads) =
-      named_follow (after_words nothing_yet follow.0 line.act) (line.line + 1) is.name lines (map name_bytes threads) (after_threads nothing_yet follow.0 line.act is) follow.2 in
-      let thread = one_thread is.name threads more.named in
-      elim more.acts [
-        | inl none ↦ inr (inl (thread.0, thread.1, ap (λ (d : Act). d ∷ map act_of lines) is.does ∙ ap (λ (ds : List Act). act.Threads ∷ ds) none))
-        | inr some ↦ inr (inr (inr (thread.0, some.0, thread.1, ap (λ (d : Act). d ∷ map act_of lines) is.does ∙ ap (λ (ds : List Act). act.Threads ∷ ds) some.1, some.2)))
+      elim (named_follow follow.1 (line.line + 1) is.name lines last (after_threads nothing_yet follow.1 follow.0 line.act is follow.3) follow.4) [
+        | inl none ↦
+            let thread = one_thread is.name threads (named ∙ none.0.named) in
+            inr (inl (thread.0, thread.1, made ∙ none.0.made, ap (λ (d : Act). d ∷ map act_of lines) is.does ∙ ap (λ (ds : List Act). act.Threads ∷ ds) none.1))
+        | inr some ↦
+            let thread = one_thread is.name threads (named ∙ some.1.named) in
+            inr (inr (inr (thread.0, some.0, thread.1, made ∙ some.1.made, ap (λ (d : Act). d ∷ map act_of lines) is.does ∙ ap (λ (ds : List Act). act.Threads ∷ ds) some.2, some.3)))
       ]
   | inr rest ↦ elim rest [
     | inl pool ↦
-        let none = none_follow (after_words nothing_yet follow.0 line.act) (line.line + 1) lines (map name_bytes threads) (after_pool nothing_yet [] follow.0 line.act refl pool) follow.2 in
-        inr (inr (inl (no_names threads none.0, ap (λ (d : Act). d ∷ map act_of lines) pool.does ∙ ap (λ (ls : List TraceLine). plain_pool ∷ map act_of ls) none.1)))
-    | inr is ↦ absurd (no_thread nothing_yet 0 line.act (record { named = refl; made = refl }) is)
+        let none = none_follow follow.1 (line.line + 1) lines last (after_pool nothing_yet follow.1 [] follow.0 line.act refl pool follow.3) follow.4 in
+        inr (inr (inl (no_names threads (named ∙ none.0.named), made ∙ none.0.made, ap (λ (d : Act). d ∷ map act_of lines) pool.does ∙ ap (λ (ls : List TraceLine). plain_pool ∷ map act_of ls) none.1)))
+    | inr is ↦ absurd (no_thread nothing_yet [] line.act (record { named = refl; made = refl }) is)
   ]
 ]
 
 pub replays_have_one_shape : ReplaysHaveOneShape
-replays_have_one_shape bytes trace read = all_follow trace.lines.items trace.names.items 1 (lines_follow forms.Replay nothing_yet 1 read.texts read.last trace.lines.items (map name_bytes trace.names.items) read.reads)
+replays_have_one_shape bytes trace read =
+    let to = lines_follow forms.Replay nothing_yet 1 read.texts read.last trace.lines.items (map name_bytes trace.names.items) trace.pools.items read.reads in
+    all_follow trace.lines.items trace.names.items trace.pools.items 1 to.last to.named to.made to.follow

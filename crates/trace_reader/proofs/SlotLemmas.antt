@@ -9,15 +9,13 @@ use Rattle.std.proofs.lemmas.Fmt.{decimal_digit, digits_decimal}
 use Rattle.pool_types.specs.declared.values.Place.{Place}
 use Rattle.pool_types.specs.Texts.{place_text}
 use Rattle.trace_reader.proofs.NumberLemmas.{own}
-use Rattle.trace_reader.specs.Slots.{HasNo, IsPairOf, IsPlaceOf, IsWritable, pair_text}
+use Rattle.trace_reader.specs.Words.{HasNo}
+use Rattle.trace_reader.proofs.WordLemmas.{HasNo-rest}
+use Rattle.trace_reader.specs.Slots.{IsPairOf, IsPlaceOf, IsWritable, pair_text}
 
 -- what stands at a place of a list's image
 pub slice_map_at : {A B : Type 0} (f : A → B) (xs : List A) (i : ℕ) (d : A) → i < length xs → slice_get (map f xs) i ≡ Some (f (get_or xs i d))
 slice_map_at f xs i d below = slice_get-map f xs i ∙ ap (λ o. option_map f o) (slice_get-get_or xs i d below)
-
--- what stands behind each place up to this one
-HasNo-rest : (byte first : ℕ) (text : List ℕ) → HasNo byte (first ∷ text) → HasNo byte text
-HasNo-rest byte first text none = λ k below. none (suc k) (omega arith)
 
 -- a text is parted at its first such byte in one way
 pub one_front : (byte : ℕ) (xs ys us vs : List ℕ) → HasNo byte xs → HasNo byte us → xs ++ byte ∷ ys ≡ us ++ byte ∷ vs → (xs ≡ us) × (ys ≡ vs)

@@ -1,5 +1,6 @@
 -- The names of a line, one after another.
-use Rattle.std.proofs.Common.{◌≡◌, ℕ, zero, suc, ◌+◌, ◌<◌, ◌≤◌, inl, inr, Bool, List, [], ◌∷◌, ◌++◌, length, get_or, take, map, refl, sym, ◌∙◌, ap, subst, arith, Vec, Global}
+use Rattle.std.proofs.Common.{◌≡◌, ℕ, zero, suc, ◌+◌, ◌<◌, ◌≤◌, inl, inr, Bool, List, [], ◌∷◌, ◌++◌, length, get_or, take, map, refl, sym, ◌∙◌, ap, subst, arith}
+use Rattle.std.specs.Borrow.{Bor}
 use Rattle.std.specs.Prelude.{Result, Ok, Err, slice_get, Some, None}
 use Rattle.std.specs.declared.option.Option.{Option}
 use Rattle.std.proofs.lemmas.List.{take_more, map-append, length-append}
@@ -7,16 +8,14 @@ use Rattle.pool_types.specs.Limits.{most_threads}
 use Rattle.trace_reader.specs.declared.refusal.Refusal.{Refusal}
 use Rattle.trace_reader.specs.declared.acts.Act.{Act}
 use Rattle.trace_reader.specs.declared.acts.Act.TheVariants as act
-use Rattle.trace_reader.specs.Words.{items_of}
+use Rattle.trace_reader.specs.Words.{bytes_in}
 use Rattle.trace_reader.specs.Names.{IsThreadName}
 use Rattle.trace_reader.specs.Acts.{ReadsName, ReadsNames, AreThreadNames}
+use Rattle.trace_reader.proofs.OptionLemmas.{no_word}
 
 -- the words up to a place, with the word there
-pub words_to : (words : List (Vec ℕ Global)) (i : ℕ) (word : Vec ℕ Global) (text : List ℕ) → i < length words → text ≡ word.items → word ≡ get_or words i word →
-    map items_of (take (i + 1) words) ≡ map items_of (take i words) ++ text ∷ []
-words_to words i word text below is there =
-    ap (map items_of) (take_more words i word below) ∙ map-append items_of (take i words) (get_or words i word ∷ [])
-    ∙ ap (λ (w : List ℕ). map items_of (take i words) ++ w ∷ []) (ap items_of (sym there) ∙ sym is)
+pub words_to : (words : List (Bor (List ℕ))) (i : ℕ) → i < length words → map bytes_in (take (i + 1) words) ≡ map bytes_in (take i words) ++ (get_or words i no_word).now ∷ []
+words_to words i below = ap (map bytes_in) (take_more words i no_word below) ∙ map-append bytes_in (take i words) (get_or words i no_word ∷ [])
 
 -- one name of a line was refused
 pub name_refused : (more : Bool) (had words rest : List (List ℕ)) (word : List ℕ) (refusal : Refusal) → words ≡ word ∷ rest → ReadsName more had word (Err refusal) → ReadsNames more had words (Err refusal)

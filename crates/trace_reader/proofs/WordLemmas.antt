@@ -1,45 +1,70 @@
 -- Splitting a text into its parts.
-use Rattle.std.proofs.Common.{◌≡◌, ℕ, Bool, true, false, ◌==◌, List, [], ◌∷◌, ◌++◌, length, map, arith, Vec, Global, refl, sym, ◌∙◌, ap, append_assoc, append-nil}
+use Rattle.std.proofs.Common.{◌≡◌, ◌≢◌, ℕ, suc, Bool, true, false, ◌==◌, List, [], ◌∷◌, ◌++◌, map, arith, refl, sym, ◌∙◌, ap, append_assoc}
+use Rattle.std.specs.Borrow.{Bor}
+use Rattle.std.proofs.lemmas.List.{map-append}
 use Rattle.std.specs.Prelude.{if◌then◌else◌}
-use Rattle.trace_reader.specs.Words.{split_on, with_first, joined, items_of}
+use Rattle.std.proofs.lemmas.Bool.Decides.{Decides-eqb, nat_tests}
+use Rattle.trace_reader.specs.Words.{HasNo, bytes_in, split_on, with_first}
 
--- a word ends at a separator
-pub joined_break : (words : List (List ℕ)) (word : List ℕ) (separator : ℕ) (rest : List ℕ) → joined words word ([] ∷ split_on separator rest) ≡ joined (words ++ word ∷ []) [] (split_on separator rest)
-joined_break words word separator [] = rw (append-nil word) (sym (append_assoc words (word ∷ []) ([] ∷ [])))
-joined_break words word separator (byte ∷ rest) = broken words word (byte == separator) byte (split_on separator rest)
-  where
-    broken : (words : List (List ℕ)) (word : List ℕ) (b : Bool) (byte : ℕ) (more : List (List ℕ)) →
-        joined words word ([] ∷ (if b then [] ∷ more else with_first byte more)) ≡ joined (words ++ word ∷ []) [] (if b then [] ∷ more else with_first byte more)
-    broken words word true byte more = rw (append-nil word) (sym (append_assoc words (word ∷ []) ([] ∷ more)))
-    broken words word false byte [] = rw (append-nil word) (sym (append_assoc words (word ∷ []) ((byte ∷ []) ∷ [])))
-    broken words word false byte (next ∷ more) = rw (append-nil word) (sym (append_assoc words (word ∷ []) ((byte ∷ next) ∷ more)))
+-- what does not stand in a text stands in no rest of it
+pub HasNo-rest : (byte first : ℕ) (text : List ℕ) → HasNo byte (first ∷ text) → HasNo byte text
+HasNo-rest byte first text none = λ k below. none (suc k) (omega arith)
 
--- a word goes on
-pub joined_on : (words : List (List ℕ)) (word : List ℕ) (byte : ℕ) (next : List ℕ) (more : List (List ℕ)) → joined words word (with_first byte (next ∷ more)) ≡ joined words (word ++ byte ∷ []) (next ∷ more)
-joined_on words word byte next more = ap (λ w. words ++ w ∷ more) (sym (append_assoc word (byte ∷ []) next))
+eq_true : (n : ℕ) → (n == n) ≡ true
+eq_true n = (Decides-eqb n n).1 refl
 
--- there is a first word
-pub split_some : (separator : ℕ) (bytes : List ℕ) → (word : List ℕ) × (words : List (List ℕ)) × (split_on separator bytes ≡ word ∷ words)
-split_some separator [] = ([], [], refl)
-split_some separator (byte ∷ bytes) = some_word (byte == separator) byte (split_on separator bytes)
-  where
-    some_word : (b : Bool) (byte : ℕ) (more : List (List ℕ)) → (word : List ℕ) × (words : List (List ℕ)) × ((if b then [] ∷ more else with_first byte more) ≡ word ∷ words)
-    some_word true byte more = ([], more, refl)
-    some_word false byte [] = (byte ∷ [], [], refl)
-    some_word false byte (word ∷ words) = (byte ∷ word, words, refl)
+eq_false : (m n : ℕ) → m ≢ n → (m == n) ≡ false
+eq_false m n differ = grind (arith, nat_tests)
 
--- a byte that is no separator goes on with the word
-pub joined_byte : (words : List (List ℕ)) (word : List ℕ) (separator byte : ℕ) → (byte == separator) ≡ false → (rest : List ℕ) →
-    joined words (word ++ byte ∷ []) (split_on separator rest) ≡ joined words word (split_on separator (byte ∷ rest))
-joined_byte words word separator byte other rest =
-    let some = split_some separator rest in
-    ap (λ ws. joined words (word ++ byte ∷ []) ws) some.2 ∙ sym (joined_on words word byte some.0 some.1)
-    ∙ ap (λ ws. joined words word (with_first byte ws)) (sym some.2)
-    ∙ ap (λ (b : Bool). joined words word (if b then [] ∷ split_on separator rest else with_first byte (split_on separator rest))) (sym other)
+-- a text is divided at its first separator
+pub split_first : (separator : ℕ) (front rest : List ℕ) → HasNo separator front → split_on separator (front ++ separator ∷ rest) ≡ front ∷ split_on separator rest
+split_first separator [] rest none = ap (λ (b : Bool). if b then [] ∷ split_on separator rest else with_first separator (split_on separator rest)) (eq_true separator)
+split_first separator (byte ∷ front) rest none =
+    let more : List (List ℕ) = split_on separator (front ++ separator ∷ rest) in
+    ap (λ (b : Bool). if b then [] ∷ more else with_first byte more) (eq_false byte separator (none 0 (omega arith)))
+    ∙ ap (λ (parts : List (List ℕ)). with_first byte parts) (split_first separator front rest (HasNo-rest separator byte front none))
 
--- a text has a last part
-pub no_parts : (bytes : List ℕ) (parts : List (Vec ℕ Global)) → map items_of parts ≡ split_on 10 bytes → length parts ≡ 0 → ⊥
-no_parts bytes [] is none =
-    let some = split_some 10 bytes in
-    let clash : ◌≡◌ {A = List (List ℕ)} [] (some.0 ∷ some.1) = is ∙ some.2 in cc
-no_parts bytes (part ∷ parts) is none = absurd (omega arith)
+-- and a text without one is one part
+pub split_none : (separator : ℕ) (text : List ℕ) → HasNo separator text → split_on separator text ≡ text ∷ []
+split_none separator [] none = refl
+split_none separator (byte ∷ text) none =
+    ap (λ (b : Bool). if b then [] ∷ split_on separator text else with_first byte (split_on separator text)) (eq_false byte separator (none 0 (omega arith)))
+    ∙ ap (λ (parts : List (List ℕ)). with_first byte parts) (split_none separator text (HasNo-rest separator byte text none))
+
+-- parts, of which one is the last
+pub record HasLast (parts : List (List ℕ)) : Type 0 where
+  pub texts : List (List ℕ)
+  pub last : List ℕ
+  pub are : parts ≡ texts ++ last ∷ []
+
+first_longer : (byte : ℕ) (parts texts : List (List ℕ)) (last : List ℕ) → parts ≡ texts ++ last ∷ [] → HasLast (with_first byte parts)
+first_longer byte parts [] last are = record { texts = []; last = byte ∷ last; are = ap (λ (ps : List (List ℕ)). with_first byte ps) are }
+first_longer byte parts (text ∷ texts) last are = record { texts = (byte ∷ text) ∷ texts; last = last; are = ap (λ (ps : List (List ℕ)). with_first byte ps) are }
+
+one_longer : (b : Bool) (byte : ℕ) (parts : List (List ℕ)) → HasLast parts → HasLast (if b then [] ∷ parts else with_first byte parts)
+one_longer true byte parts some = record { texts = [] ∷ some.texts; last = some.last; are = ap (λ (ps : List (List ℕ)). [] ∷ ps) some.are }
+one_longer false byte parts some = first_longer byte parts some.texts some.last some.are
+
+-- each text has a last part
+pub split_last : (separator : ℕ) (bytes : List ℕ) → HasLast (split_on separator bytes)
+split_last separator [] = record { texts = []; last = []; are = refl }
+split_last separator (byte ∷ bytes) = one_longer (byte == separator) byte (split_on separator bytes) (split_last separator bytes)
+
+-- parts that were found: one more, and the last
+pub parts_more : (parts after : List (Bor (List ℕ))) (part : Bor (List ℕ)) (separator : ℕ) (rest more text : List ℕ) → after ≡ parts ++ part ∷ [] → rest ≡ part.now ++ separator ∷ more → HasNo separator part.now →
+    map bytes_in parts ++ split_on separator rest ≡ split_on separator text → map bytes_in after ++ split_on separator more ≡ split_on separator text
+parts_more parts after part separator rest more text pushed is none so_far =
+    ap (λ (ps : List (Bor (List ℕ))). map bytes_in ps ++ split_on separator more) pushed
+    ∙ ap (λ (ws : List (List ℕ)). ws ++ split_on separator more) (map-append bytes_in parts (part ∷ []))
+    ∙ append_assoc (map bytes_in parts) (part.now ∷ []) (split_on separator more)
+    ∙ ap (λ (ws : List (List ℕ)). map bytes_in parts ++ ws) (sym (split_first separator part.now more none))
+    ∙ ap (λ (t : List ℕ). map bytes_in parts ++ split_on separator t) (sym is)
+    ∙ so_far
+
+pub parts_last : (parts after : List (Bor (List ℕ))) (part : Bor (List ℕ)) (separator : ℕ) (text : List ℕ) → after ≡ parts ++ part ∷ [] → HasNo separator part.now →
+    map bytes_in parts ++ split_on separator part.now ≡ split_on separator text → map bytes_in after ≡ split_on separator text
+parts_last parts after part separator text pushed none so_far =
+    ap (map bytes_in) pushed
+    ∙ map-append bytes_in parts (part ∷ [])
+    ∙ ap (λ (ws : List (List ℕ)). map bytes_in parts ++ ws) (sym (split_none separator part.now none))
+    ∙ so_far

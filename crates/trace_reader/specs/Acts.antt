@@ -1,13 +1,12 @@
 -- The lines of a trace, word by word.
-use Rattle.std.specs.Prelude.{◌≡◌, ◌≢◌, ℕ, ◌+◌, ◌<◌, ◌≤◌, ◌⊎◌, Bool, true, false, if◌then◌else◌, List, [], ◌∷◌, ◌++◌, length, drop, codes, slice_get, Some, None, Result, Ok, Err}
+use Rattle.std.specs.Prelude.{◌≡◌, ◌≢◌, ℕ, ◌+◌, ◌<◌, ◌≤◌, ◌⊎◌, Bool, true, false, if◌then◌else◌, List, [], ◌∷◌, ◌++◌, length, drop, codes, slice_get, slice_index_or, Some, None, Result, Ok, Err}
 use Rattle.std.specs.declared.option.Option.{Option}
 use Rattle.std.specs.Str.{bytes_eq}
 use Rattle.arrayvec.specs.ArrayVec.{ArrayVec}
 use Rattle.pool_types.specs.declared.rows.Row.{Row}
-use Rattle.pool_types.specs.Limits.{most_pools, most_threads, most_turns}
+use Rattle.pool_types.specs.Limits.{most_threads, most_turns}
 use Rattle.trace_reader.specs.declared.refusal.Refusal.{Refusal}
 use Rattle.trace_reader.specs.declared.refusal.Refusal.TheVariants.{Spelling, ThreadsAgain, TooMany, NotServed}
-use Rattle.trace_reader.specs.declared.names.BoundName.{BoundName}
 use Rattle.trace_reader.specs.declared.keywords.Keyword.{Keyword}
 use Rattle.trace_reader.specs.declared.keywords.Keyword.TheVariants.{ThreadsWord, PoolWord, RawWord, BeginWord, StepWord, UpToWord, FinishWord, ResetWord, DestroyWord}
 use Rattle.trace_reader.specs.declared.keywords.CallWord.{CallWord}
@@ -22,7 +21,7 @@ use Rattle.trace_reader.specs.declared.acts.TraceCall.{TraceCall}
 use Rattle.trace_reader.specs.declared.acts.TraceCall.TheVariants as call
 use Rattle.trace_reader.specs.declared.acts.Act.{Act}
 use Rattle.trace_reader.specs.declared.acts.Act.TheVariants as act
-use Rattle.trace_reader.specs.Names.{IsThreadName}
+use Rattle.trace_reader.specs.Names.{IsThreadName, IsBoundName}
 use Rattle.trace_reader.specs.Keywords.{IsRowOf, keyword_text, call_text, script_text}
 use Rattle.trace_reader.specs.Combinators.{Then, Ends, Wraps}
 use Rattle.trace_reader.specs.Contexts.{Context}
@@ -100,14 +99,14 @@ ReadsNames more had (word ∷ words) result = ((refusal : Refusal) × ReadsName 
 
 -- a line that names the threads: it stands before any pool line, once
 abbrev pub ThreadsLine : Bool → Context → List (List ℕ) → Result Act Refusal → Type 0
-ThreadsLine more before words result = ((before.names ≡ []) × (before.pools ≡ 0) × ReadsNames more [] (drop 1 words) result)
-    ⊎ (((before.names ≢ []) ⊎ (0 < before.pools)) × (result ≡ Err ThreadsAgain))
+ThreadsLine more before words result = ((before.names ≡ []) × (before.pools ≡ []) × ReadsNames more [] (drop 1 words) result)
+    ⊎ (((before.names ≢ []) ⊎ (before.pools ≢ [])) × (result ≡ Err ThreadsAgain))
 
 -- the options of a pool line
 abbrev pub PoolOptions : Bool → ℕ → List (List ℕ) → ℕ → Result Act Refusal → Type 0
 PoolOptions more pool words at result = ((refusal : Refusal) × ReadsOptions [] (drop at words) (Err refusal) × (result ≡ Err refusal))
-    ⊎ ((options : ArrayVec PoolOption) × ReadsOptions [] (drop at words) (Ok options.items) × ((more ≡ true) ⊎ IsPlainPool pool options.items) × (result ≡ Ok (act.Pool pool options)))
-    ⊎ ((options : ArrayVec PoolOption) × ReadsOptions [] (drop at words) (Ok options.items) × (more ≡ false) × (IsPlainPool pool options.items → ⊥) × (result ≡ Err NotServed))
+    ⊎ ((options : List PoolOption) × ReadsOptions [] (drop at words) (Ok options) × ((more ≡ true) ⊎ IsPlainPool pool options) × (result ≡ Ok (act.Pool pool)))
+    ⊎ ((options : List PoolOption) × ReadsOptions [] (drop at words) (Ok options) × (more ≡ false) × (IsPlainPool pool options → ⊥) × (result ≡ Err NotServed))
 
 -- any number
 abbrev pub AnyNumber : List ℕ → Result ℕ Refusal → Type 0
@@ -142,7 +141,7 @@ ReadsCallWord binding word (Ok call) = (word ≡ call_text call) × (binds call 
 ReadsCallWord binding word (Err refusal) = ((call : CallWord) → binds call ≡ binding → word ≢ call_text call) × (refusal ≡ Spelling)
 
 -- what follows the word of a call that binds a name
-abbrev pub BindingCall : Bool → Context → BoundName → CallWord → List (List ℕ) → ℕ → Result TraceCall Refusal → Type 0
+abbrev pub BindingCall : Bool → Context → ℕ → CallWord → List (List ℕ) → ℕ → Result TraceCall Refusal → Type 0
 BindingCall more before name MallocWord = Then (ReadsSize more) (λ size. Ends (call.Malloc name size))
 BindingCall more before name AlignedWord = Then AnyNumber (λ size. Then AnyNumber (λ alignment. Ends (call.Aligned name size alignment)))
 BindingCall more before name ReallocWord = Then (ReadsWhat before) (λ what. Then AnyNumber (λ size. Ends (call.Realloc name what size)))
@@ -200,8 +199,8 @@ ReadsWords forms before words result =
     ⊎ (((key : Keyword) → slice_get words 0 ≢ Some (keyword_text key)) × (call : CallWord) × Calls words call × (serves_call forms call ≡ false) × (result ≡ Err NotServed))
     ⊎ (((key : Keyword) → slice_get words 0 ≢ Some (keyword_text key)) × ((call : CallWord) → Calls words call → serves_call forms call ≡ true) × CallLine (serves_more forms) before words result)
 
--- the name that the call binds
-abbrev pub bound_by : TraceCall → Option BoundName
+-- the number of the name that the call binds
+abbrev pub bound_by : TraceCall → Option ℕ
 bound_by (call.Malloc name size) = Some name
 bound_by (call.Aligned name size alignment) = Some name
 bound_by (call.Realloc name what size) = Some name
@@ -211,31 +210,48 @@ bound_by (call.Msize what) = None
 bound_by (call.Identify what) = None
 bound_by call.Exit = None
 
--- and the name is bound
-abbrev pub with_bound : Context → Option BoundName → Context
-with_bound before None = before
-with_bound before (Some name) = record before { bound = λ word. if bytes_eq name.bytes.items word then true else before.bound word }
+-- the word in this place, or no bytes where there is none
+abbrev pub word_in : List (List ℕ) → ℕ → List ℕ
+word_in words at = slice_index_or words at []
 
--- what stands before the next line, after a line of these words that does this
-abbrev pub after_words : Context → List (List ℕ) → Act → Context
-after_words before words act.Threads = record before { names = drop 1 words }
-after_words before words (act.Pool pool options) = record before { pools = before.pools + 1 }
-after_words before words (act.Call thread pool call) = with_bound before (bound_by call)
-after_words before words (act.Begin thread pool call) = with_bound before (bound_by call)
-after_words before words (act.RawGet pool base bytes) = before
-after_words before words (act.RawGetFail pool) = before
-after_words before words (act.RawPutOk pool) = before
-after_words before words (act.RawPutFail pool) = before
-after_words before words (act.Step thread pool turns) = before
-after_words before words (act.UpTo thread pool row) = before
-after_words before words (act.Finish thread pool) = before
-after_words before words (act.Reset pool) = before
-after_words before words (act.Destroy pool) = before
+-- where a name is bound, this word has its number from then on, and the next name will have the next one
+abbrev pub with_bound : Context → Option ℕ → List ℕ → Context
+with_bound before None word = before
+with_bound before (Some number) word =
+    record before { bound = λ other. if bytes_eq word other then Some number else before.bound other; count = before.count + 1 }
+
+-- one pool more, with these options
+abbrev pub with_pool : Context → ArrayVec PoolOption → Context
+with_pool before options = record before { pools = before.pools ++ options ∷ [] }
+
+-- What stands before the next line, after a line of these words that does this. The word of a name that is bound is the third of a line
+-- that makes a whole call, and the fourth of one that begins one.
+abbrev pub Enters : Context → List (List ℕ) → Act → Context → Type 0
+Enters before words act.Threads next = next ≡ record before { names = drop 1 words }
+Enters before words (act.Pool pool) next = (options : ArrayVec PoolOption) × ReadsOptions [] (drop 2 words) (Ok options.items) × (next ≡ with_pool before options)
+Enters before words (act.Call thread pool call) next = next ≡ with_bound before (bound_by call) (word_in words 2)
+Enters before words (act.Begin thread pool call) next = next ≡ with_bound before (bound_by call) (word_in words 3)
+Enters before words (act.RawGet pool base bytes) next = next ≡ before
+Enters before words (act.RawGetFail pool) next = next ≡ before
+Enters before words (act.RawPutOk pool) next = next ≡ before
+Enters before words (act.RawPutFail pool) next = next ≡ before
+Enters before words (act.Step thread pool turns) next = next ≡ before
+Enters before words (act.UpTo thread pool row) next = next ≡ before
+Enters before words (act.Finish thread pool) next = next ≡ before
+Enters before words (act.Reset pool) next = next ≡ before
+Enters before words (act.Destroy pool) next = next ≡ before
+
+-- what is known of the word of a name that a line binds
+abbrev pub MayBind : Context → Option ℕ → List ℕ → Type 0
+MayBind before None word = Unit {0}
+MayBind before (Some number) word = (number ≡ before.count) × IsBoundName word
 
 -- what is known of a line that was read and does this
 abbrev pub MayEnter : Context → List (List ℕ) → Act → Type 0
 MayEnter before words act.Threads = AreThreadNames (drop 1 words) × (0 < length words)
-MayEnter before words (act.Pool pool options) = before.pools < most_pools
+MayEnter before words (act.Pool pool) = (1 < length words) × ((options : List PoolOption) × ReadsOptions [] (drop 2 words) (Ok options))
+MayEnter before words (act.Call thread pool call) = MayBind before (bound_by call) (word_in words 2)
+MayEnter before words (act.Begin thread pool call) = MayBind before (bound_by call) (word_in words 3)
 MayEnter before words other = Unit {0}
 
 -- the keyword that stands first, or that none does

@@ -7,13 +7,16 @@ use Rattle.pool_types.specs.declared.values.Place.{Place}
 use Rattle.pool_types.specs.Limits.{most_lines}
 use Rattle.pool_types.specs.Rows.{row_name}
 use Rattle.pool_types.specs.Texts.{place_text}
+use Rattle.trace_reader.specs.declared.acts.Act.{Act}
 use Rattle.trace_reader.specs.declared.acts.Forms.{Forms}
 use Rattle.trace_reader.specs.declared.acts.Forms.TheVariants as forms
 use Rattle.trace_reader.specs.declared.trace.Trace.{Trace}
 use Rattle.trace_reader.specs.Keywords.{IsRowOf}
-use Rattle.trace_reader.specs.Served.{AreBoundInTurn, AreNumbered, AreServed, act_of}
+use Rattle.trace_reader.specs.Acts.{Enters, ReadsWords}
+use Rattle.trace_reader.specs.Contexts.{Context}
+use Rattle.trace_reader.specs.Served.{AreBoundInTurn, AreNumbered, AreNumberedNames, AreServed, act_of}
 use Rattle.trace_reader.specs.Slots.{IsPlaceOf, IsWritable}
-use Rattle.trace_reader.specs.Text.{IsReadAs, Outcome, ReadsTrace}
+use Rattle.trace_reader.specs.Text.{IsReadAs, Outcome, ReadsTrace, nothing_yet}
 
 -- a text is read as one thing only
 abbrev pub TracesAreClear : Type 0
@@ -25,7 +28,7 @@ TracesAreClear =
 abbrev pub ReplaysHaveOneShape : Type 0
 ReplaysHaveOneShape =
     (bytes : List ℕ) (trace : Trace) → ReadsTrace forms.Replay bytes (Ok trace) →
-    AreServed trace.names.items (map act_of trace.lines.items)
+    AreServed trace.names.items trace.pools.items (map act_of trace.lines.items)
 
 -- lines are numbered in their order
 abbrev pub LinesAreNumbered : Type 0
@@ -33,11 +36,18 @@ LinesAreNumbered =
     (forms : Forms) (bytes : List ℕ) (trace : Trace) → ReadsTrace forms bytes (Ok trace) →
     AreNumbered 1 trace.lines.items × (length trace.lines.items ≤ most_lines)
 
--- names are bound before they are used, and once
+-- names are bound before they are used, and numbered as they are bound
 abbrev pub NamesAreBoundInTurn : Type 0
 NamesAreBoundInTurn =
     (forms : Forms) (bytes : List ℕ) (trace : Trace) → ReadsTrace forms bytes (Ok trace) →
-    AreBoundInTurn [] (map act_of trace.lines.items)
+    AreBoundInTurn 0 (map act_of trace.lines.items)
+
+-- a number is that of one name: before the first line, and behind each line that is read
+abbrev pub NumbersAreNames : Type 0
+NumbersAreNames =
+    AreNumberedNames nothing_yet
+    × ((forms : Forms) (before next : Context) (words : List (List ℕ)) (act : Act) → ReadsWords forms before words (Ok act) →
+    Enters before words act next → AreNumberedNames before → AreNumberedNames next)
 
 -- the text of a place is read as that place, and as nothing else
 abbrev pub PlacesAreReadBack : Type 0

@@ -1,10 +1,9 @@
 -- Names of threads, and bound names.
-use Rattle.std.specs.Prelude.{◌≡◌, ◌≢◌, ℕ, ◌+◌, Bool, true, false, ◌&&◌, ◌||◌, ◌==◌, nat_le, nat_lt, List, [], ◌∷◌, length, codes, Some, None}
+use Rattle.std.specs.Prelude.{◌≡◌, ◌≢◌, ℕ, ◌+◌, ◌*◌, Bool, true, false, ◌&&◌, ◌||◌, ◌==◌, nat_le, nat_lt, List, [], ◌∷◌, length, codes, Some, None}
 use Rattle.std.specs.List.{list_all}
 use Rattle.std.specs.declared.option.Option.{Option}
 use Rattle.pool_types.specs.Limits.{bound_name_bytes, thread_name_bytes}
 use Rattle.pool_types.specs.declared.texts.ThreadName.{ThreadName}
-use Rattle.trace_reader.specs.declared.names.BoundName.{BoundName}
 
 -- one of the 26 letters from this one on
 abbrev pub is_letter : ℕ → ℕ → Bool
@@ -32,7 +31,7 @@ abbrev pub IsThreadNameOf : List ℕ → Option ThreadName → Type 0
 IsThreadNameOf word (Some name) = (word ≡ name.bytes.items) × IsThreadName word
 IsThreadNameOf word None = IsThreadName word → ⊥
 
--- the bound name that the word spells, or that it spells none
-abbrev pub IsBoundNameOf : List ℕ → Option BoundName → Type 0
-IsBoundNameOf word (Some name) = (word ≡ name.bytes.items) × IsBoundName word
-IsBoundNameOf word None = IsBoundName word → ⊥
+-- a name's bytes as one number, the first byte the least: no two names have the same one
+abbrev pub name_key : List ℕ → ℕ
+name_key [] = 0
+name_key (byte ∷ bytes) = byte + 256 * name_key bytes

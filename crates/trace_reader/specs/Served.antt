@@ -1,13 +1,12 @@
 -- What the lines of a trace that was read are: of one that a replay serves, and of any.
-use Rattle.std.specs.Prelude.{◌≡◌, ℕ, ◌+◌, ◌≤◌, ◌⊎◌, Bool, true, false, List, [], ◌∷◌, Some, None}
-use Rattle.std.specs.List.{list_any}
-use Rattle.std.specs.Str.{bytes_eq}
+use Rattle.std.specs.Prelude.{◌≡◌, ℕ, ◌+◌, ◌<◌, ◌≤◌, ◌⊎◌, true, List, [], ◌∷◌, Some, None}
 use Rattle.std.specs.declared.option.Option.{Option}
 use Rattle.trace_reader.specs.declared.keywords.CallWord.{CallWord}
 use Rattle.trace_reader.specs.declared.keywords.CallWord.TheVariants.{MallocWord, AlignedWord, ReallocWord, AlignedReallocWord, FreeWord, MsizeWord, IdentifyWord, ExitWord}
 use Rattle.pool_types.specs.declared.texts.ThreadName.{ThreadName}
-use Rattle.trace_reader.specs.declared.names.BoundName.{BoundName}
 use Rattle.trace_reader.specs.declared.acts.Forms.TheVariants as forms
+use Rattle.arrayvec.specs.ArrayVec.{ArrayVec}
+use Rattle.trace_reader.specs.declared.acts.PoolOption.{PoolOption}
 use Rattle.trace_reader.specs.declared.acts.PoolOption.TheVariants as option
 use Rattle.trace_reader.specs.declared.acts.What.{What}
 use Rattle.trace_reader.specs.declared.acts.What.TheVariants as what
@@ -17,6 +16,7 @@ use Rattle.trace_reader.specs.declared.acts.Act.{Act}
 use Rattle.trace_reader.specs.declared.acts.Act.TheVariants as act
 use Rattle.trace_reader.specs.declared.acts.TraceLine.{TraceLine}
 use Rattle.pool_types.specs.Limits.{most_lines}
+use Rattle.trace_reader.specs.Contexts.{Context}
 use Rattle.trace_reader.specs.Acts.{bound_by, serves_call}
 
 -- the word that names the call
@@ -45,17 +45,20 @@ AreServedCalls [] = Unit {0}
 AreServedCalls (act.Call thread pool call ∷ acts) = (thread ≡ 0) × (pool ≡ 0) × IsServedCall call × AreServedCalls acts
 AreServedCalls (other ∷ acts) = ⊥
 
--- what the line `pool P0 fixed` does
+-- what the line `pool P0 fixed` does, and the options of its pool
 abbrev pub plain_pool : Act
-plain_pool = act.Pool 0 (record { items = option.Fixed ∷ [] })
+plain_pool = act.Pool 0
 
--- Names of threads, and what the lines of a trace that a replay serves do. There is no line, or the line that names the one thread, or
--- the pool's line; or the line that names the thread, then the pool's line, and then calls.
-abbrev pub AreServed : List ThreadName → List Act → Type 0
-AreServed names acts = ((names ≡ []) × (acts ≡ []))
-    ⊎ ((name : ThreadName) × (names ≡ name ∷ []) × (acts ≡ act.Threads ∷ []))
-    ⊎ ((names ≡ []) × (acts ≡ plain_pool ∷ []))
-    ⊎ ((name : ThreadName) × (calls : List Act) × (names ≡ name ∷ []) × (acts ≡ act.Threads ∷ plain_pool ∷ calls) × AreServedCalls calls)
+abbrev pub plain_options : ArrayVec PoolOption
+plain_options = record { items = option.Fixed ∷ [] }
+
+-- Names of threads, the options of pools, and what the lines of a trace that a replay serves do. There is no line, or the line that names
+-- the one thread, or the pool's line; or the line that names the thread, then the pool's line, and then calls.
+abbrev pub AreServed : List ThreadName → List (ArrayVec PoolOption) → List Act → Type 0
+AreServed names pools acts = ((names ≡ []) × (pools ≡ []) × (acts ≡ []))
+    ⊎ ((name : ThreadName) × (names ≡ name ∷ []) × (pools ≡ []) × (acts ≡ act.Threads ∷ []))
+    ⊎ ((names ≡ []) × (pools ≡ plain_options ∷ []) × (acts ≡ plain_pool ∷ []))
+    ⊎ ((name : ThreadName) × (calls : List Act) × (names ≡ name ∷ []) × (pools ≡ plain_options ∷ []) × (acts ≡ act.Threads ∷ plain_pool ∷ calls) × AreServedCalls calls)
 
 -- what a line does
 abbrev pub act_of : TraceLine → Act
@@ -65,6 +68,11 @@ act_of line = line.act
 abbrev pub AreNumbered : ℕ → List TraceLine → Type 0
 AreNumbered least [] = Unit {0}
 AreNumbered least (line ∷ lines) = (least ≤ line.line) × (line.line ≤ most_lines) × AreNumbered (line.line + 1) lines
+
+-- the numbers of the names that were bound lie below their count, and no two names have one number
+pub record AreNumberedNames (before : Context) : Type 0 where
+  pub counted : (word : List ℕ) (number : ℕ) → before.bound word ≡ Some number → number < before.count
+  pub apart : (one other : List ℕ) (number : ℕ) → before.bound one ≡ Some number → before.bound other ≡ Some number → one ≡ other
 
 -- what the call is asked of
 abbrev pub asked_of : TraceCall → Option What
@@ -77,24 +85,20 @@ asked_of (call.Msize what) = Some what
 asked_of (call.Identify what) = Some what
 asked_of call.Exit = None
 
--- the name is among these
-abbrev pub is_among : List (List ℕ) → List ℕ → Bool
-is_among names name = list_any (λ bound. bytes_eq bound name) names
+-- the name that a call is asked of, if any, is one of so many
+abbrev pub IsAskedOfBound : ℕ → Option What → Type 0
+IsAskedOfBound count (Some (what.Name number)) = number < count
+IsAskedOfBound count other = Unit {0}
 
--- the name that a call is asked of, if any, is among these
-abbrev pub IsAskedOfBound : List (List ℕ) → Option What → Type 0
-IsAskedOfBound names (Some (what.Name name)) = is_among names name.bytes.items ≡ true
-IsAskedOfBound names other = Unit {0}
+-- the name that is bound, if any, is the next behind so many
+abbrev pub IsNextName : ℕ → Option ℕ → Type 0
+IsNextName count None = Unit {0}
+IsNextName count (Some number) = number ≡ count
 
--- the name that is bound, if any, is none of these
-abbrev pub IsNewTo : List (List ℕ) → Option BoundName → Type 0
-IsNewTo names None = Unit {0}
-IsNewTo names (Some name) = is_among names name.bytes.items ≡ false
-
--- the same names, and the one that is bound
-abbrev pub with_name : List (List ℕ) → Option BoundName → List (List ℕ)
-with_name names None = names
-with_name names (Some name) = name.bytes.items ∷ names
+-- so many names, and the one that is bound
+abbrev pub count_with : ℕ → Option ℕ → ℕ
+count_with count None = count
+count_with count (Some number) = count + 1
 
 -- the call that a line makes or begins
 abbrev pub call_in : Act → Option TraceCall
@@ -102,17 +106,17 @@ call_in (act.Call thread pool call) = Some call
 call_in (act.Begin thread pool call) = Some call
 call_in other = None
 
--- after lines that bound these names, the call asks for names that are bound, and binds one that is not
-abbrev pub IsBoundInTurn : List (List ℕ) → Option TraceCall → Type 0
-IsBoundInTurn names None = Unit {0}
-IsBoundInTurn names (Some call) = IsAskedOfBound names (asked_of call) × IsNewTo names (bound_by call)
+-- after lines that bound so many names, the call is asked of one of them at most, and binds the next one at most
+abbrev pub IsBoundInTurn : ℕ → Option TraceCall → Type 0
+IsBoundInTurn count None = Unit {0}
+IsBoundInTurn count (Some call) = IsAskedOfBound count (asked_of call) × IsNextName count (bound_by call)
 
--- the names that are bound after the call
-abbrev pub after_call : List (List ℕ) → Option TraceCall → List (List ℕ)
-after_call names None = names
-after_call names (Some call) = with_name names (bound_by call)
+-- how many names are bound after the call
+abbrev pub after_call : ℕ → Option TraceCall → ℕ
+after_call count None = count
+after_call count (Some call) = count_with count (bound_by call)
 
--- after lines that bound these names, each line asks for names that earlier lines bound, and binds a name that none of them bound
-abbrev pub AreBoundInTurn : List (List ℕ) → List Act → Type 0
-AreBoundInTurn names [] = Unit {0}
-AreBoundInTurn names (act ∷ acts) = IsBoundInTurn names (call_in act) × AreBoundInTurn (after_call names (call_in act)) acts
+-- after lines that bound so many names, each line asks for names that earlier lines bound, and binds the name that comes next
+abbrev pub AreBoundInTurn : ℕ → List Act → Type 0
+AreBoundInTurn count [] = Unit {0}
+AreBoundInTurn count (act ∷ acts) = IsBoundInTurn count (call_in act) × AreBoundInTurn (after_call count (call_in act)) acts

@@ -8,7 +8,6 @@ use Rattle.pool_types.specs.Limits.{most_pools, region_numbers}
 use Rattle.pool_types.specs.Texts.{place_text}
 use Rattle.trace_reader.specs.declared.refusal.Refusal.{Refusal}
 use Rattle.trace_reader.specs.declared.refusal.Refusal.TheVariants.{Spelling, Number, UnknownPool, UnknownThread, UnboundName, BoundBefore, PoolOrder, TooMany, NotServed}
-use Rattle.trace_reader.specs.declared.names.BoundName.{BoundName}
 use Rattle.trace_reader.specs.declared.acts.What.{What}
 use Rattle.trace_reader.specs.declared.acts.What.TheVariants as what
 use Rattle.trace_reader.specs.Contexts.{Context}
@@ -65,21 +64,21 @@ IsPoolOf word None = (pool : ℕ) → pool < most_pools → word ≢ pool_text p
 
 -- a pool that was made
 abbrev pub ReadsPool : Context → List ℕ → Result ℕ Refusal → Type 0
-ReadsPool before word (Ok pool) = (word ≡ pool_text pool) × (pool < most_pools) × (pool < before.pools)
-ReadsPool before word (Err refusal) = ((pool : ℕ) × (word ≡ pool_text pool) × (pool < most_pools) × (before.pools ≤ pool) × (refusal ≡ UnknownPool))
+ReadsPool before word (Ok pool) = (word ≡ pool_text pool) × (pool < most_pools) × (pool < length before.pools)
+ReadsPool before word (Err refusal) = ((pool : ℕ) × (word ≡ pool_text pool) × (pool < most_pools) × (length before.pools ≤ pool) × (refusal ≡ UnknownPool))
     ⊎ (((pool : ℕ) → pool < most_pools → word ≢ pool_text pool) × (refusal ≡ Spelling))
 
 -- the next pool
 abbrev pub ReadsNextPool : Context → List ℕ → Result ℕ Refusal → Type 0
-ReadsNextPool before word (Ok pool) = (before.pools < most_pools) × (pool ≡ before.pools) × (word ≡ pool_text pool)
-ReadsNextPool before word (Err refusal) = ((most_pools ≤ before.pools) × (refusal ≡ TooMany))
-    ⊎ ((before.pools < most_pools) × (pool : ℕ) × (word ≡ pool_text pool) × (pool < most_pools) × (pool ≢ before.pools) × (refusal ≡ PoolOrder))
-    ⊎ ((before.pools < most_pools) × ((pool : ℕ) → pool < most_pools → word ≢ pool_text pool) × (refusal ≡ Spelling))
+ReadsNextPool before word (Ok pool) = (length before.pools < most_pools) × (pool ≡ length before.pools) × (word ≡ pool_text pool)
+ReadsNextPool before word (Err refusal) = ((most_pools ≤ length before.pools) × (refusal ≡ TooMany))
+    ⊎ ((length before.pools < most_pools) × (pool : ℕ) × (word ≡ pool_text pool) × (pool < most_pools) × (pool ≢ length before.pools) × (refusal ≡ PoolOrder))
+    ⊎ ((length before.pools < most_pools) × ((pool : ℕ) → pool < most_pools → word ≢ pool_text pool) × (refusal ≡ Spelling))
 
--- a name that is bound here
-abbrev pub ReadsNewName : Context → List ℕ → Result BoundName Refusal → Type 0
-ReadsNewName before word (Ok name) = (word ≡ name.bytes.items) × IsBoundName word × (before.bound word ≡ false)
-ReadsNewName before word (Err refusal) = (IsBoundName word × (before.bound word ≡ true) × (refusal ≡ BoundBefore))
+-- a name that is bound here, by its number, which is the next one
+abbrev pub ReadsNewName : Context → List ℕ → Result ℕ Refusal → Type 0
+ReadsNewName before word (Ok number) = (number ≡ before.count) × IsBoundName word × (before.bound word ≡ None)
+ReadsNewName before word (Err refusal) = (IsBoundName word × (before.bound word ≢ None) × (refusal ≡ BoundBefore))
     ⊎ ((IsBoundName word → ⊥) × (refusal ≡ Spelling))
 
 -- a place that can be written
@@ -89,10 +88,6 @@ IsWritable place = (place.pool < most_pools) × (place.region < region_numbers) 
 -- the numbers of a region and an offset, as a place has them
 abbrev pub pair_text : ℕ → ℕ → List ℕ
 pair_text region offset = decimal region ++ 43 ∷ decimal offset
-
--- the byte does not stand in the text
-abbrev pub HasNo : ℕ → List ℕ → Type 0
-HasNo byte text = (k : ℕ) → k < length text → slice_index text k ≢ byte
 
 -- the two numbers that the text has, or that it has none
 abbrev pub IsPairOf : List ℕ → Option (ℕ × ℕ) → Type 0
@@ -104,10 +99,10 @@ abbrev pub IsPlaceOf : List ℕ → Option Place → Type 0
 IsPlaceOf word (Some place) = (word ≡ place_text place) × IsWritable place
 IsPlaceOf word None = (place : Place) → IsWritable place → word ≢ place_text place
 
--- null, a name that was bound, or a place
+-- null, the number of a name that was bound, or a place
 abbrev pub ReadsWhat : Context → List ℕ → Result What Refusal → Type 0
 ReadsWhat before word (Ok what.Null) = word ≡ codes "null"
-ReadsWhat before word (Ok (what.Name name)) = (word ≡ name.bytes.items) × IsBoundName word × (before.bound word ≡ true)
+ReadsWhat before word (Ok (what.Name number)) = IsBoundName word × (before.bound word ≡ Some number)
 ReadsWhat before word (Ok (what.Place place)) = (word ≡ place_text place) × IsWritable place
-ReadsWhat before word (Err refusal) = (IsBoundName word × (before.bound word ≡ false) × (refusal ≡ UnboundName))
+ReadsWhat before word (Err refusal) = (IsBoundName word × (before.bound word ≡ None) × (refusal ≡ UnboundName))
     ⊎ ((word ≢ codes "null") × (IsBoundName word → ⊥) × ((place : Place) → IsWritable place → word ≢ place_text place) × (refusal ≡ Spelling))

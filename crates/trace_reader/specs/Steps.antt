@@ -1,5 +1,5 @@
 -- Reading one more line, and all of them.
-use Rattle.std.specs.Prelude.{◌≡◌, ℕ, List, [], ◌∷◌, ◌++◌, map, Some, None, Ok, Err}
+use Rattle.std.specs.Prelude.{◌≡◌, ℕ, List, [], ◌∷◌, ◌++◌, Some, None, Ok, Err}
 use Rattle.std.specs.declared.option.Option.{Option}
 use Rattle.trace_reader.specs.declared.refusal.Refusal.{Refusal}
 use Rattle.trace_reader.specs.declared.acts.Forms.{Forms}
@@ -9,21 +9,20 @@ use Rattle.trace_reader.specs.declared.trace.Outcome as kept
 use Rattle.trace_reader.specs.declared.trace.Outcome.TheVariants as kept_as
 use Rattle.trace_reader.specs.Words.{words_of}
 use Rattle.trace_reader.specs.Contexts.{Context}
-use Rattle.pool_types.specs.Texts.{name_bytes}
-use Rattle.trace_reader.specs.Acts.{after_words}
-use Rattle.trace_reader.specs.Text.{ReadsLine, ReadsLines, AllRead, FirstRefused, nothing_yet}
+use Rattle.trace_reader.specs.Acts.{Enters}
+use Rattle.trace_reader.specs.Text.{ReadsLine, RefusesLine, SpellsTrace}
 
 -- what a line that was read makes of the lines before it, and of what stands before
 abbrev pub StepsTo : ℕ → List ℕ → Context → List TraceLine → Option Act → Context → List TraceLine → Type 0
 StepsTo number text before lines None next more = (next ≡ before) × (more ≡ lines)
-StepsTo number text before lines (Some act) next more = (next ≡ after_words before (words_of text) act) × (more ≡ lines ++ record { line = number; act = act } ∷ [])
+StepsTo number text before lines (Some act) next more = Enters before (words_of text) act next × (more ≡ lines ++ record { line = number; act = act } ∷ [])
 
 -- one more line is read, or refused
 abbrev pub AddsLine : Forms → ℕ → List ℕ → Context → List TraceLine → Option Refusal → Context → List TraceLine → Type 0
 AddsLine forms number text before lines (Some refusal) next more = ReadsLine forms before number text (Err refusal)
 AddsLine forms number text before lines None next more = (result : Option Act) × ReadsLine forms before number text (Ok result) × StepsTo number text before lines result next more
 
--- what all the lines are read as
-abbrev pub AreReadAs : Forms → List (List ℕ) → List ℕ → kept.Outcome → Type 0
-AreReadAs forms texts last (kept_as.AllRead trace) = ReadsLines forms nothing_yet 1 texts last (AllRead trace.lines.items (map name_bytes trace.names.items))
-AreReadAs forms texts last (kept_as.FirstRefused line refusal) = ReadsLines forms nothing_yet 1 texts last (FirstRefused line refusal)
+-- what the whole text is read as
+abbrev pub IsOutcome : Forms → List ℕ → kept.Outcome → Type 0
+IsOutcome forms bytes (kept_as.AllRead trace) = SpellsTrace forms bytes trace
+IsOutcome forms bytes (kept_as.FirstRefused line refusal) = RefusesLine forms bytes line refusal

@@ -1,6 +1,6 @@
 -- The parts of a text, and numbers.
-use Rattle.std.specs.Prelude.{◌≡◌, ◌≢◌, ℕ, ◌^◌, ◌<◌, ◌==◌, if◌then◌else◌, List, [], ◌∷◌, ◌++◌, length, slice_index, Vec, Some, None}
-use Rattle.std.specs.Global.{Global}
+use Rattle.std.specs.Prelude.{◌≡◌, ◌≢◌, ℕ, ◌^◌, ◌<◌, ◌==◌, if◌then◌else◌, List, [], ◌∷◌, ◌++◌, length, slice_index, Some, None}
+use Rattle.std.specs.Borrow.{Bor}
 use Rattle.std.specs.Fmt.{decimal}
 use Rattle.std.specs.declared.option.Option.{Option}
 
@@ -30,8 +30,12 @@ abbrev pub words_of : List ℕ → List (List ℕ)
 words_of line = split_on 32 line
 
 -- the bytes of a part
-abbrev pub items_of : Vec ℕ Global → List ℕ
-items_of part = part.items
+abbrev pub bytes_in : Bor (List ℕ) → List ℕ
+bytes_in part = part.now
+
+-- the byte does not stand in the text
+abbrev pub HasNo : ℕ → List ℕ → Type 0
+HasNo byte text = (k : ℕ) → k < length text → slice_index text k ≢ byte
 
 -- parts that were split off, and the next one's front, before the parts of the rest
 abbrev pub joined : List (List ℕ) → List ℕ → List (List ℕ) → List (List ℕ)

@@ -1,14 +1,13 @@
 //! What the lines of a trace do. The language is this project's own.
 
-use crate::names::BoundName;
-use arrayvec::ArrayVec;
 use pool_types::{Place, Row};
 
-/// What a call is asked of: null, what a name stands for, or a place.
-#[derive(Drop)]
+/// What a call is asked of: null, what the name of this number stands for, or a place. Names are numbered from 0, in
+/// the order in which the lines bind them.
+#[derive(Clone, Copy, Debug, PartialEq, Eq)]
 pub enum What {
     Null,
-    Name(BoundName),
+    Name(u32),
     Place(Place),
 }
 
@@ -27,25 +26,25 @@ pub enum PoolOption {
     Reserved(u32),
 }
 
-/// A call on a pool, and the name that what it answers is bound to. Sizes and alignments are in bytes.
-#[derive(Drop)]
+/// A call on a pool, and the number of the name that what it answers is bound to. Sizes and alignments are in bytes.
+#[derive(Clone, Copy, Debug, PartialEq, Eq)]
 pub enum TraceCall {
     Malloc {
-        name: BoundName,
+        name: u32,
         size: u64,
     },
     Aligned {
-        name: BoundName,
+        name: u32,
         size: u64,
         alignment: u64,
     },
     Realloc {
-        name: BoundName,
+        name: u32,
         what: What,
         size: u64,
     },
     AlignedRealloc {
-        name: BoundName,
+        name: u32,
         what: What,
         size: u64,
         alignment: u64,
@@ -62,13 +61,13 @@ pub enum TraceCall {
     Exit,
 }
 
-/// What a line does. A thread is its position among the names of the `threads` line, from 0.
-#[derive(Drop)]
+/// What a line does. A thread is its position among the names of the `threads` line, from 0, and a pool its position
+/// among the pools that were made; the trace has the pools' options.
+#[derive(Clone, Copy, Debug, PartialEq, Eq)]
 pub enum Act {
     Threads,
     Pool {
         pool: u16,
-        options: ArrayVec<PoolOption, 9>,
     },
     RawGet {
         pool: u16,
@@ -117,7 +116,7 @@ pub enum Act {
 }
 
 /// What a line does, and its number, counted from 1.
-#[derive(Drop)]
+#[derive(Clone, Copy, Debug, PartialEq, Eq)]
 pub struct TraceLine {
     pub line: u32,
     pub act: Act,

@@ -1,6 +1,6 @@
 //! The calls of a line.
 ghost use Rattle.std.specs.Prelude.{◌≡◌, ◌≢◌, ◌<◌, ◌≤◌, ◌+◌, true, false, map, codes, slice_get, Some, IsTrue, ◌↔◌};
-ghost use Rattle.trace_reader.specs.Words.{items_of};
+ghost use Rattle.trace_reader.specs.Words.{bytes_in};
 ghost use Rattle.trace_reader.specs.Combinators.{WordAt, Ends, Then};
 ghost use Rattle.trace_reader.specs.Slots.{ReadsWhat};
 ghost use Rattle.trace_reader.specs.Acts.{AnyNumber, BindingCall, PlainCall, NamedCall, ReadsCall, ReadsCallWord, binds};
@@ -10,15 +10,14 @@ ghost use Rattle.trace_reader.specs.declared.keywords.CallWord.TheVariants.{Mall
 use crate::acts::{TraceCall, What};
 use crate::context::Context;
 use crate::keywords::{CallWord, read_call_word};
-use crate::names::BoundName;
 use crate::refusal::Refusal;
 use crate::slots::{end_at, new_name_at, number_at, size_at, what_at, word_at};
 use crate::words::is_same;
 
 /// Whether the word at this place is `=`.
-pub fn is_equals_at(words: &[Vec<u8>], at: usize) -> bool
-    ensures yes { result ≡ true → slice_get (map items_of words.now) at ≡ Some (codes "=") }
-    ensures no { result ≡ false → slice_get (map items_of words.now) at ≢ Some (codes "=") }
+pub fn is_equals_at(words: &[&[u8]], at: usize) -> bool
+    ensures yes { result ≡ true → slice_get (map bytes_in words.now) at ≡ Some (codes "=") }
+    ensures no { result ≡ false → slice_get (map bytes_in words.now) at ≢ Some (codes "=") }
 {
     match word_at(words, at) {
         Ok(word) => is_same(word, b"="),
@@ -41,8 +40,8 @@ fn binds(call: CallWord) -> bool
 }
 
 /// The call whose word stands at this place, of those that bind a name or of those that bind none.
-fn call_word_at(binding: bool, words: &[Vec<u8>], at: usize) -> Result<CallWord, Refusal>
-    ensures { WordAt (ReadsCallWord binding) (map items_of words.now) at result }
+fn call_word_at(binding: bool, words: &[&[u8]], at: usize) -> Result<CallWord, Refusal>
+    ensures { WordAt (ReadsCallWord binding) (map bytes_in words.now) at result }
 {
     match read_call_word(word_at(words, at)?) {
         Some(call) if binds(call) == binding => Ok(call),
@@ -54,12 +53,12 @@ fn call_word_at(binding: bool, words: &[Vec<u8>], at: usize) -> Result<CallWord,
 fn malloc_at(
     more: bool,
     context: &Context,
-    name: BoundName,
-    words: &[Vec<u8>],
+    name: u32,
+    words: &[&[u8]],
     at: usize,
 ) -> Result<TraceCall, Refusal>
     requires { at < 100 }
-    ensures { BindingCall more (context_of context.now) name MallocWord (map items_of words.now) at result }
+    ensures { BindingCall more (context_of context.now) name MallocWord (map bytes_in words.now) at result }
 {
     let size = size_at(more, words, at)?;
     end_at(words, at + 1)?;
@@ -70,12 +69,12 @@ fn malloc_at(
 fn aligned_at(
     more: bool,
     context: &Context,
-    name: BoundName,
-    words: &[Vec<u8>],
+    name: u32,
+    words: &[&[u8]],
     at: usize,
 ) -> Result<TraceCall, Refusal>
     requires { at < 100 }
-    ensures { BindingCall more (context_of context.now) name AlignedWord (map items_of words.now) at result }
+    ensures { BindingCall more (context_of context.now) name AlignedWord (map bytes_in words.now) at result }
 {
     let size = number_at(words, at, 0, u64::MAX)?;
     let at = at + 1;
@@ -93,12 +92,12 @@ fn aligned_at(
 fn realloc_at(
     more: bool,
     context: &Context,
-    name: BoundName,
-    words: &[Vec<u8>],
+    name: u32,
+    words: &[&[u8]],
     at: usize,
 ) -> Result<TraceCall, Refusal>
     requires { at < 100 }
-    ensures { BindingCall more (context_of context.now) name ReallocWord (map items_of words.now) at result }
+    ensures { BindingCall more (context_of context.now) name ReallocWord (map bytes_in words.now) at result }
 {
     let what = what_at(context, words, at)?;
     let at = at + 1;
@@ -110,14 +109,14 @@ fn realloc_at(
 
 /// The size and the alignment that an aligned realloc asks for.
 fn aligned_realloc_sizes_at(
-    name: BoundName,
+    name: u32,
     what: What,
-    words: &[Vec<u8>],
+    words: &[&[u8]],
     at: usize,
 ) -> Result<TraceCall, Refusal>
     requires { at < 101 }
     ensures { Then AnyNumber (λ size. Then AnyNumber (λ alignment. Ends (TraceCall.AlignedRealloc name what size alignment)))
-        (map items_of words.now) at result }
+        (map bytes_in words.now) at result }
 {
     let size = number_at(words, at, 0, u64::MAX)?;
     let at = at + 1;
@@ -136,12 +135,12 @@ fn aligned_realloc_sizes_at(
 fn aligned_realloc_at(
     more: bool,
     context: &Context,
-    name: BoundName,
-    words: &[Vec<u8>],
+    name: u32,
+    words: &[&[u8]],
     at: usize,
 ) -> Result<TraceCall, Refusal>
     requires { at < 100 }
-    ensures { BindingCall more (context_of context.now) name AlignedReallocWord (map items_of words.now) at result }
+    ensures { BindingCall more (context_of context.now) name AlignedReallocWord (map bytes_in words.now) at result }
 {
     let what = what_at(context, words, at)?;
     aligned_realloc_sizes_at(name, what, words, at + 1)
@@ -151,14 +150,14 @@ fn aligned_realloc_at(
 fn binding_call_at(
     more: bool,
     context: &Context,
-    name: BoundName,
+    name: u32,
     call: CallWord,
-    words: &[Vec<u8>],
+    words: &[&[u8]],
     at: usize,
 ) -> Result<TraceCall, Refusal>
     requires binding { binds call ≡ true }
     requires near { at < 100 }
-    ensures { BindingCall more (context_of context.now) name call (map items_of words.now) at result }
+    ensures { BindingCall more (context_of context.now) name call (map bytes_in words.now) at result }
 {
     match call {
         CallWord::MallocWord => malloc_at(more, context, name, words, at),
@@ -171,9 +170,9 @@ fn binding_call_at(
 }
 
 /// What a free is asked of.
-fn free_at(context: &Context, words: &[Vec<u8>], at: usize) -> Result<TraceCall, Refusal>
+fn free_at(context: &Context, words: &[&[u8]], at: usize) -> Result<TraceCall, Refusal>
     requires { at < 100 }
-    ensures { PlainCall (context_of context.now) FreeWord (map items_of words.now) at result }
+    ensures { PlainCall (context_of context.now) FreeWord (map bytes_in words.now) at result }
 {
     let what = what_at(context, words, at)?;
     end_at(words, at + 1)?;
@@ -181,9 +180,9 @@ fn free_at(context: &Context, words: &[Vec<u8>], at: usize) -> Result<TraceCall,
 }
 
 /// What an msize is asked of.
-fn msize_at(context: &Context, words: &[Vec<u8>], at: usize) -> Result<TraceCall, Refusal>
+fn msize_at(context: &Context, words: &[&[u8]], at: usize) -> Result<TraceCall, Refusal>
     requires { at < 100 }
-    ensures { PlainCall (context_of context.now) MsizeWord (map items_of words.now) at result }
+    ensures { PlainCall (context_of context.now) MsizeWord (map bytes_in words.now) at result }
 {
     let what = what_at(context, words, at)?;
     end_at(words, at + 1)?;
@@ -191,9 +190,9 @@ fn msize_at(context: &Context, words: &[Vec<u8>], at: usize) -> Result<TraceCall
 }
 
 /// What an identify is asked of.
-fn identify_at(context: &Context, words: &[Vec<u8>], at: usize) -> Result<TraceCall, Refusal>
+fn identify_at(context: &Context, words: &[&[u8]], at: usize) -> Result<TraceCall, Refusal>
     requires { at < 100 }
-    ensures { PlainCall (context_of context.now) IdentifyWord (map items_of words.now) at result }
+    ensures { PlainCall (context_of context.now) IdentifyWord (map bytes_in words.now) at result }
 {
     let what = what_at(context, words, at)?;
     end_at(words, at + 1)?;
@@ -201,8 +200,8 @@ fn identify_at(context: &Context, words: &[Vec<u8>], at: usize) -> Result<TraceC
 }
 
 /// An exit, which asks for nothing.
-fn exit_at(context: &Context, words: &[Vec<u8>], at: usize) -> Result<TraceCall, Refusal>
-    ensures { PlainCall (context_of context.now) ExitWord (map items_of words.now) at result }
+fn exit_at(context: &Context, words: &[&[u8]], at: usize) -> Result<TraceCall, Refusal>
+    ensures { PlainCall (context_of context.now) ExitWord (map bytes_in words.now) at result }
 {
     end_at(words, at)?;
     Ok(TraceCall::Exit)
@@ -212,12 +211,12 @@ fn exit_at(context: &Context, words: &[Vec<u8>], at: usize) -> Result<TraceCall,
 fn plain_call_at(
     context: &Context,
     call: CallWord,
-    words: &[Vec<u8>],
+    words: &[&[u8]],
     at: usize,
 ) -> Result<TraceCall, Refusal>
     requires plain { binds call ≡ false }
     requires near { at < 100 }
-    ensures { PlainCall (context_of context.now) call (map items_of words.now) at result }
+    ensures { PlainCall (context_of context.now) call (map bytes_in words.now) at result }
 {
     match call {
         CallWord::FreeWord => free_at(context, words, at),
@@ -235,11 +234,11 @@ fn plain_call_at(
 fn named_call_at(
     more: bool,
     context: &Context,
-    words: &[Vec<u8>],
+    words: &[&[u8]],
     at: usize,
 ) -> Result<TraceCall, Refusal>
     requires { at < 50 }
-    ensures { NamedCall more (context_of context.now) (map items_of words.now) at result }
+    ensures { NamedCall more (context_of context.now) (map bytes_in words.now) at result }
 {
     let name = new_name_at(context, words, at)?;
     let at = at + 1;
@@ -253,11 +252,11 @@ fn named_call_at(
 pub fn call_at(
     more: bool,
     context: &Context,
-    words: &[Vec<u8>],
+    words: &[&[u8]],
     at: usize,
 ) -> Result<TraceCall, Refusal>
     requires { at < 50 }
-    ensures { ReadsCall more (context_of context.now) (map items_of words.now) at result }
+    ensures { ReadsCall more (context_of context.now) (map bytes_in words.now) at result }
 {
     if is_equals_at(words, at + 1) {
         return named_call_at(more, context, words, at);

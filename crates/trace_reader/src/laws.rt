@@ -1,5 +1,5 @@
 //! What holds of every trace that is read. The functions do nothing: each has a law as its contract.
-ghost use Rattle.trace_reader.specs.Laws.{LinesAreNumbered, NamesAreBoundInTurn, PlacesAreReadBack};
+ghost use Rattle.trace_reader.specs.Laws.{LinesAreNumbered, NamesAreBoundInTurn, NumbersAreNames, PlacesAreReadBack};
 ghost use Rattle.trace_reader.specs.Laws.{ReplaysHaveOneShape, RowsAreReadBack, TracesAreClear};
 
 /// A text is read as one thing only. So it spells one trace at most, and none where a line of it is refused, and one line
@@ -19,9 +19,15 @@ pub fn lines_are_numbered()
     ensures { LinesAreNumbered }
 {}
 
-/// Each name that a call is asked of was bound by an earlier line, and no line binds a name that an earlier one bound.
+/// Each name that a call is asked of was bound by an earlier line, and the names that lines bind are numbered from 0, one
+/// after another.
 pub fn names_are_bound_in_turn()
     ensures { NamesAreBoundInTurn }
+{}
+
+/// A number is that of one name: no two names that were bound have the same one.
+pub fn numbers_are_names()
+    ensures { NumbersAreNames }
 {}
 
 /// The place that a report prints is the place that the reader reads: its text is read as that place and nothing else.

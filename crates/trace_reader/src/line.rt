@@ -1,7 +1,7 @@
 //! One line of a trace, word by word.
 ghost use Rattle.std.specs.Prelude.{◌≡◌, ◌≢◌, ◌<◌, ◌≤◌, ◌+◌, ◌⊎◌, [], ◌∷◌, true, false, map, drop, length, codes, slice_get, Some, None, IsTrue, ◌↔◌, MatchOption};
 ghost use Rattle.pool_types.specs.Limits.{most_turns};
-ghost use Rattle.trace_reader.specs.Words.{items_of};
+ghost use Rattle.trace_reader.specs.Words.{bytes_in};
 ghost use Rattle.trace_reader.specs.Combinators.{WordAt, Ends, Then, Wraps};
 ghost use Rattle.trace_reader.specs.Slots.{ReadsNumber};
 ghost use Rattle.trace_reader.specs.Acts.{CallLine, Calls, IsCalled, IsFirstWord, IsPlainPool, KeywordLine, PoolOptions, RawEntry, ReadsCall, ReadsRow, ReadsScriptWord, ReadsWords, serves_call, serves_keyword, serves_more};
@@ -24,8 +24,8 @@ use pool_types::Row;
 use pool_types::limits::MOST_TURNS;
 
 /// The script's entry whose word stands at this place.
-fn script_word_at(words: &[Vec<u8>], at: usize) -> Result<ScriptWord, Refusal>
-    ensures { WordAt ReadsScriptWord (map items_of words.now) at result }
+fn script_word_at(words: &[&[u8]], at: usize) -> Result<ScriptWord, Refusal>
+    ensures { WordAt ReadsScriptWord (map bytes_in words.now) at result }
 {
     match read_script_word(word_at(words, at)?) {
         Some(script) => Ok(script),
@@ -34,8 +34,8 @@ fn script_word_at(words: &[Vec<u8>], at: usize) -> Result<ScriptWord, Refusal>
 }
 
 /// The row whose name stands at this place.
-fn row_at(words: &[Vec<u8>], at: usize) -> Result<Row, Refusal>
-    ensures { WordAt ReadsRow (map items_of words.now) at result }
+fn row_at(words: &[&[u8]], at: usize) -> Result<Row, Refusal>
+    ensures { WordAt ReadsRow (map bytes_in words.now) at result }
 {
     match read_row(word_at(words, at)?) {
         Some(row) => Ok(row),
@@ -62,30 +62,30 @@ fn is_plain_pool(pool: u16, options: &[PoolOption]) -> bool
 }
 
 /// What follows the pool of a pool line.
-fn pool_options_at(more: bool, pool: u16, words: &[Vec<u8>], at: usize) -> Result<Act, Refusal>
+fn pool_options_at(more: bool, pool: u16, words: &[&[u8]], at: usize) -> Result<Act, Refusal>
     requires { at ≤ length words.now }
-    ensures { PoolOptions more pool (map items_of words.now) at result }
+    ensures { PoolOptions more pool (map bytes_in words.now) at result }
 {
     let options = options_from(words, at)?;
     if more || is_plain_pool(pool, options.as_slice()) {
-        Ok(Act::Pool { pool, options })
+        Ok(Act::Pool { pool })
     } else {
         Err(Refusal::NotServed)
     }
 }
 
 /// A pool line.
-fn pool_line(more: bool, context: &Context, words: &[Vec<u8>]) -> Result<Act, Refusal>
-    ensures { KeywordLine more (context_of context.now) PoolWord (map items_of words.now) result }
+fn pool_line(more: bool, context: &Context, words: &[&[u8]]) -> Result<Act, Refusal>
+    ensures { KeywordLine more (context_of context.now) PoolWord (map bytes_in words.now) result }
 {
     let pool = next_pool_at(context, words, 1)?;
     pool_options_at(more, pool, words, 2)
 }
 
 /// What a raw line enters as the answer of a `get`.
-fn raw_get_at(pool: u16, words: &[Vec<u8>], at: usize) -> Result<Act, Refusal>
+fn raw_get_at(pool: u16, words: &[&[u8]], at: usize) -> Result<Act, Refusal>
     requires { at < 100 }
-    ensures { RawEntry pool ScriptWord.GetWord (map items_of words.now) at result }
+    ensures { RawEntry pool ScriptWord.GetWord (map bytes_in words.now) at result }
 {
     let base = number_at(words, at, 0, u64::MAX)?;
     let at = at + 1;
@@ -96,9 +96,9 @@ fn raw_get_at(pool: u16, words: &[Vec<u8>], at: usize) -> Result<Act, Refusal>
 }
 
 /// What follows the word for a script's entry.
-fn raw_entry_at(pool: u16, script: ScriptWord, words: &[Vec<u8>], at: usize) -> Result<Act, Refusal>
+fn raw_entry_at(pool: u16, script: ScriptWord, words: &[&[u8]], at: usize) -> Result<Act, Refusal>
     requires { at < 100 }
-    ensures { RawEntry pool script (map items_of words.now) at result }
+    ensures { RawEntry pool script (map bytes_in words.now) at result }
 {
     match script {
         ScriptWord::GetWord => raw_get_at(pool, words, at),
@@ -118,8 +118,8 @@ fn raw_entry_at(pool: u16, script: ScriptWord, words: &[Vec<u8>], at: usize) -> 
 }
 
 /// A raw line.
-fn raw_line(more: bool, context: &Context, words: &[Vec<u8>]) -> Result<Act, Refusal>
-    ensures { KeywordLine more (context_of context.now) RawWord (map items_of words.now) result }
+fn raw_line(more: bool, context: &Context, words: &[&[u8]]) -> Result<Act, Refusal>
+    ensures { KeywordLine more (context_of context.now) RawWord (map bytes_in words.now) result }
 {
     let pool = pool_at(context, words, 1)?;
     let script = script_word_at(words, 2)?;
@@ -132,19 +132,19 @@ fn begun_call_at(
     context: &Context,
     thread: u8,
     pool: u16,
-    words: &[Vec<u8>],
+    words: &[&[u8]],
     at: usize,
 ) -> Result<Act, Refusal>
     requires { at < 50 }
-    ensures { Wraps (Act.Begin thread pool) (ReadsCall more (context_of context.now)) (map items_of words.now) at result }
+    ensures { Wraps (Act.Begin thread pool) (ReadsCall more (context_of context.now)) (map bytes_in words.now) at result }
 {
     let call = call_at(more, context, words, at)?;
     Ok(Act::Begin { thread, pool, call })
 }
 
 /// A begin line.
-fn begin_line(more: bool, context: &Context, words: &[Vec<u8>]) -> Result<Act, Refusal>
-    ensures { KeywordLine more (context_of context.now) BeginWord (map items_of words.now) result }
+fn begin_line(more: bool, context: &Context, words: &[&[u8]]) -> Result<Act, Refusal>
+    ensures { KeywordLine more (context_of context.now) BeginWord (map bytes_in words.now) result }
 {
     let thread = thread_at(context, words, 1)?;
     let pool = pool_at(context, words, 2)?;
@@ -152,9 +152,9 @@ fn begin_line(more: bool, context: &Context, words: &[Vec<u8>]) -> Result<Act, R
 }
 
 /// How many turns a step line makes.
-fn turns_at(thread: u8, pool: u16, words: &[Vec<u8>], at: usize) -> Result<Act, Refusal>
+fn turns_at(thread: u8, pool: u16, words: &[&[u8]], at: usize) -> Result<Act, Refusal>
     requires { at < 100 }
-    ensures { Then (ReadsNumber 1 most_turns) (λ turns. Ends (Act.Step thread pool turns)) (map items_of words.now) at result }
+    ensures { Then (ReadsNumber 1 most_turns) (λ turns. Ends (Act.Step thread pool turns)) (map bytes_in words.now) at result }
 {
     let turns = number_at(words, at, 1, MOST_TURNS)?;
     end_at(words, at + 1)?;
@@ -166,8 +166,8 @@ fn turns_at(thread: u8, pool: u16, words: &[Vec<u8>], at: usize) -> Result<Act, 
 }
 
 /// A step line.
-fn step_line(more: bool, context: &Context, words: &[Vec<u8>]) -> Result<Act, Refusal>
-    ensures { KeywordLine more (context_of context.now) StepWord (map items_of words.now) result }
+fn step_line(more: bool, context: &Context, words: &[&[u8]]) -> Result<Act, Refusal>
+    ensures { KeywordLine more (context_of context.now) StepWord (map bytes_in words.now) result }
 {
     let thread = thread_at(context, words, 1)?;
     let pool = pool_at(context, words, 2)?;
@@ -175,9 +175,9 @@ fn step_line(more: bool, context: &Context, words: &[Vec<u8>]) -> Result<Act, Re
 }
 
 /// The row that an upto line goes to.
-fn last_row_at(thread: u8, pool: u16, words: &[Vec<u8>], at: usize) -> Result<Act, Refusal>
+fn last_row_at(thread: u8, pool: u16, words: &[&[u8]], at: usize) -> Result<Act, Refusal>
     requires { at < 100 }
-    ensures { Then ReadsRow (λ row. Ends (Act.UpTo thread pool row)) (map items_of words.now) at result }
+    ensures { Then ReadsRow (λ row. Ends (Act.UpTo thread pool row)) (map bytes_in words.now) at result }
 {
     let row = row_at(words, at)?;
     end_at(words, at + 1)?;
@@ -185,8 +185,8 @@ fn last_row_at(thread: u8, pool: u16, words: &[Vec<u8>], at: usize) -> Result<Ac
 }
 
 /// An upto line.
-fn up_to_line(more: bool, context: &Context, words: &[Vec<u8>]) -> Result<Act, Refusal>
-    ensures { KeywordLine more (context_of context.now) UpToWord (map items_of words.now) result }
+fn up_to_line(more: bool, context: &Context, words: &[&[u8]]) -> Result<Act, Refusal>
+    ensures { KeywordLine more (context_of context.now) UpToWord (map bytes_in words.now) result }
 {
     let thread = thread_at(context, words, 1)?;
     let pool = pool_at(context, words, 2)?;
@@ -194,8 +194,8 @@ fn up_to_line(more: bool, context: &Context, words: &[Vec<u8>]) -> Result<Act, R
 }
 
 /// A finish line.
-fn finish_line(more: bool, context: &Context, words: &[Vec<u8>]) -> Result<Act, Refusal>
-    ensures { KeywordLine more (context_of context.now) FinishWord (map items_of words.now) result }
+fn finish_line(more: bool, context: &Context, words: &[&[u8]]) -> Result<Act, Refusal>
+    ensures { KeywordLine more (context_of context.now) FinishWord (map bytes_in words.now) result }
 {
     let thread = thread_at(context, words, 1)?;
     let pool = pool_at(context, words, 2)?;
@@ -204,8 +204,8 @@ fn finish_line(more: bool, context: &Context, words: &[Vec<u8>]) -> Result<Act, 
 }
 
 /// A reset line.
-fn reset_line(more: bool, context: &Context, words: &[Vec<u8>]) -> Result<Act, Refusal>
-    ensures { KeywordLine more (context_of context.now) ResetWord (map items_of words.now) result }
+fn reset_line(more: bool, context: &Context, words: &[&[u8]]) -> Result<Act, Refusal>
+    ensures { KeywordLine more (context_of context.now) ResetWord (map bytes_in words.now) result }
 {
     let pool = pool_at(context, words, 1)?;
     end_at(words, 2)?;
@@ -213,8 +213,8 @@ fn reset_line(more: bool, context: &Context, words: &[Vec<u8>]) -> Result<Act, R
 }
 
 /// A destroy line.
-fn destroy_line(more: bool, context: &Context, words: &[Vec<u8>]) -> Result<Act, Refusal>
-    ensures { KeywordLine more (context_of context.now) DestroyWord (map items_of words.now) result }
+fn destroy_line(more: bool, context: &Context, words: &[&[u8]]) -> Result<Act, Refusal>
+    ensures { KeywordLine more (context_of context.now) DestroyWord (map bytes_in words.now) result }
 {
     let pool = pool_at(context, words, 1)?;
     end_at(words, 2)?;
@@ -227,19 +227,19 @@ fn whole_call_at(
     context: &Context,
     thread: u8,
     pool: u16,
-    words: &[Vec<u8>],
+    words: &[&[u8]],
     at: usize,
 ) -> Result<Act, Refusal>
     requires { at < 50 }
-    ensures { Wraps (Act.Call thread pool) (ReadsCall more (context_of context.now)) (map items_of words.now) at result }
+    ensures { Wraps (Act.Call thread pool) (ReadsCall more (context_of context.now)) (map bytes_in words.now) at result }
 {
     let call = call_at(more, context, words, at)?;
     Ok(Act::Call { thread, pool, call })
 }
 
 /// A line that begins with a thread and makes a whole call.
-fn call_line(more: bool, context: &Context, words: &[Vec<u8>]) -> Result<Act, Refusal>
-    ensures { CallLine more (context_of context.now) (map items_of words.now) result }
+fn call_line(more: bool, context: &Context, words: &[&[u8]]) -> Result<Act, Refusal>
+    ensures { CallLine more (context_of context.now) (map bytes_in words.now) result }
 {
     let thread = thread_at(context, words, 0)?;
     let pool = pool_at(context, words, 1)?;
@@ -304,8 +304,8 @@ fn serves_more(forms: Forms) -> bool
 }
 
 /// The keyword that stands first.
-fn first_keyword(words: &[Vec<u8>]) -> Option<Keyword>
-    ensures { IsFirstWord (map items_of words.now) result }
+fn first_keyword(words: &[&[u8]]) -> Option<Keyword>
+    ensures { IsFirstWord (map bytes_in words.now) result }
 {
     match word_at(words, 0) {
         Ok(word) => read_keyword(word),
@@ -314,9 +314,9 @@ fn first_keyword(words: &[Vec<u8>]) -> Option<Keyword>
 }
 
 /// The call whose word stands at this place.
-fn call_named_at(words: &[Vec<u8>], at: usize) -> Option<CallWord>
-    ensures { MatchOption result ((call : CallWord) → slice_get (map items_of words.now) at ≢ Some (call_text call))
-        (λ call. slice_get (map items_of words.now) at ≡ Some (call_text call)) }
+fn call_named_at(words: &[&[u8]], at: usize) -> Option<CallWord>
+    ensures { MatchOption result ((call : CallWord) → slice_get (map bytes_in words.now) at ≢ Some (call_text call))
+        (λ call. slice_get (map bytes_in words.now) at ≡ Some (call_text call)) }
 {
     match word_at(words, at) {
         Ok(word) => read_call_word(word),
@@ -325,8 +325,8 @@ fn call_named_at(words: &[Vec<u8>], at: usize) -> Option<CallWord>
 }
 
 /// The call that the words make: its word is the fifth where the fourth is `=`, else the third.
-fn called(words: &[Vec<u8>]) -> Option<CallWord>
-    ensures { IsCalled (map items_of words.now) result }
+fn called(words: &[&[u8]]) -> Option<CallWord>
+    ensures { IsCalled (map bytes_in words.now) result }
 {
     if is_equals_at(words, 3) {
         call_named_at(words, 4)
@@ -336,9 +336,9 @@ fn called(words: &[Vec<u8>]) -> Option<CallWord>
 }
 
 /// Whether the words make a call that is not served.
-fn has_unserved_call(forms: Forms, words: &[Vec<u8>]) -> bool
-    ensures yes { result ≡ true → (call : CallWord) × Calls (map items_of words.now) call × (serves_call forms call ≡ false) }
-    ensures no { result ≡ false → (call : CallWord) → Calls (map items_of words.now) call → serves_call forms call ≡ true }
+fn has_unserved_call(forms: Forms, words: &[&[u8]]) -> bool
+    ensures yes { result ≡ true → (call : CallWord) × Calls (map bytes_in words.now) call × (serves_call forms call ≡ false) }
+    ensures no { result ≡ false → (call : CallWord) → Calls (map bytes_in words.now) call → serves_call forms call ≡ true }
 {
     match called(words) {
         Some(call) => !serves_call(forms, call),
@@ -351,10 +351,10 @@ fn keyword_line(
     more: bool,
     context: &Context,
     key: Keyword,
-    words: &[Vec<u8>],
+    words: &[&[u8]],
 ) -> Result<Act, Refusal>
     requires { 0 < length words.now }
-    ensures { KeywordLine more (context_of context.now) key (map items_of words.now) result }
+    ensures { KeywordLine more (context_of context.now) key (map bytes_in words.now) result }
 {
     match key {
         Keyword::ThreadsWord => threads_line(more, context, words),
@@ -370,8 +370,8 @@ fn keyword_line(
 }
 
 /// What the words of a line mean, where these forms are served.
-pub fn read_words(forms: Forms, context: &Context, words: &[Vec<u8>]) -> Result<Act, Refusal>
-    ensures { ReadsWords forms (context_of context.now) (map items_of words.now) result }
+pub fn read_words(forms: Forms, context: &Context, words: &[&[u8]]) -> Result<Act, Refusal>
+    ensures { ReadsWords forms (context_of context.now) (map bytes_in words.now) result }
 {
     let Some(key) = first_keyword(words) else {
         if has_unserved_call(forms, words) {

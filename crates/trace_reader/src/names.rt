@@ -1,30 +1,13 @@
 //! The names of threads, and those that a trace binds.
 ghost use Rattle.std.specs.Prelude.{◌≡◌, ◌≢◌, ◌≤◌, true, false, IsTrue, ◌↔◌};
 ghost use Rattle.std.specs.List.{list_all};
-ghost use Rattle.trace_reader.specs.Names.{IsThreadName, IsThreadNameOf, IsBoundNameOf, is_name, may_follow};
+ghost use Rattle.pool_types.specs.Limits.{bound_name_bytes};
+ghost use Rattle.trace_reader.specs.Names.{IsBoundName, IsThreadName, IsThreadNameOf, is_name, may_follow, name_key};
 
 use crate::words::is_same;
 use arrayvec::ArrayVec;
 use pool_types::ThreadName;
 use pool_types::limits::{BOUND_NAME_BYTES, THREAD_NAME_BYTES};
-
-/// The name of what a call answered: a letter a to z, and then up to 15 of a to z, 0 to 9 and `_`. It is not `null`.
-#[derive(Drop, Hash, PartialEq, Eq)]
-pub struct BoundName {
-    pub bytes: ArrayVec<u8, BOUND_NAME_BYTES>,
-}
-
-impl BoundName {
-    /// The same name again.
-    pub fn duplicate(&self) -> BoundName
-        ensures { result.bytes.items ≡ self.now.bytes.items }
-    {
-        let Ok(bytes) = ArrayVec::try_from(self.bytes.as_slice()) else {
-            unreachable!();
-        };
-        BoundName { bytes }
-    }
-}
 
 /// Whether the byte may stand behind the first letter of a name, whose letters begin at this one.
 fn may_follow(first: u8, byte: u8) -> bool
@@ -76,13 +59,22 @@ pub fn read_thread_name(word: &[u8]) -> Option<ThreadName>
     Some(ThreadName { bytes })
 }
 
-/// The bound name that the word spells.
-pub fn read_bound_name(word: &[u8]) -> Option<BoundName>
-    ensures { IsBoundNameOf word.now result }
+/// Whether the word is spelled as the name of what a call answered: a letter a to z, and then up to 15 of a to z, 0 to 9
+/// and `_`. It is not `null`.
+pub fn is_bound_name(word: &[u8]) -> bool
+    ensures { IsTrue result ↔ IsBoundName word.now }
 {
-    if !is_name(b'a', BOUND_NAME_BYTES, word) || is_same(word, b"null") {
-        return None;
+    is_name(b'a', BOUND_NAME_BYTES, word) && !is_same(word, b"null")
+}
+
+/// A name's bytes as one number. Names are found by it, since numbers are compared faster than bytes.
+pub fn name_key(word: &[u8]) -> u128
+    requires { is_name 97 bound_name_bytes word.now ≡ true }
+    ensures { result ≡ name_key word.now }
+{
+    let mut key = 0;
+    for i in (0..word.len()).rev() {
+        key = key * 256 + u128::from(word[i]);
     }
-    let bytes = ArrayVec::try_from(word).ok()?;
-    Some(BoundName { bytes })
+    key
 }

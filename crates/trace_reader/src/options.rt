@@ -1,6 +1,6 @@
 //! The options of a pool line.
 ghost use Rattle.std.specs.Prelude.{◌≡◌, ◌≢◌, ◌++◌, ◌+◌, ◌<◌, ◌≤◌, ◌^◌, length, List, ℕ, MatchOption, IfOk, map, drop, true, false};
-ghost use Rattle.trace_reader.specs.Words.{items_of};
+ghost use Rattle.trace_reader.specs.Words.{bytes_in};
 ghost use Rattle.trace_reader.specs.Options.{IsFlagOf, IsValueOf, ReadsOption, ReadsOptions, IsReadAsOptions, has_option, option_of, option_place, value_limit, value_text};
 
 use crate::acts::PoolOption;
@@ -130,13 +130,13 @@ fn has_option(options: &[PoolOption], option: PoolOption) -> bool
 }
 
 /// The options that the words from this place on spell.
-pub fn options_from(words: &[Vec<u8>], at: usize) -> Result<ArrayVec<PoolOption, 9>, Refusal>
+pub fn options_from(words: &[&[u8]], at: usize) -> Result<ArrayVec<PoolOption, 9>, Refusal>
     requires { at ≤ length words.now }
-    ensures { IsReadAsOptions (drop at (map items_of words.now)) result }
+    ensures { IsReadAsOptions (drop at (map bytes_in words.now)) result }
 {
     let mut options: ArrayVec<PoolOption, 9> = ArrayVec::new();
     for i in at..words.len() {
-        let option = read_option(words[i].as_slice())?;
+        let option = read_option(words[i])?;
         if has_option(options.as_slice(), option) {
             return Err(Refusal::PoolOrder);
         }

@@ -1,27 +1,27 @@
 //! One word of a line, in its place.
 ghost use Rattle.std.specs.Prelude.{◌≡◌, ◌≢◌, ◌≤◌, ◌<◌, ◌^◌, ◌-◌, ◌+◌, true, false, map, MatchResult, MatchOption, List, ℕ, ◌++◌, ◌∷◌, slice_get, Some, None, IsTrue, ◌↔◌, length};
 ghost use Rattle.std.specs.List.{list_all};
-ghost use Rattle.trace_reader.specs.Words.{items_of};
+ghost use Rattle.trace_reader.specs.Words.{bytes_in};
 ghost use Rattle.trace_reader.specs.Combinators.{WordAt, Ends};
-ghost use Rattle.trace_reader.specs.Slots.{IsMisread, ReadsNumber, ReadsSize, ReadsThread, ReadsPool, ReadsNextPool, ReadsNewName, ReadsWhat, IsPoolOf, IsPairOf, IsPlaceOf, HasNo, is_text, is_printable};
+ghost use Rattle.trace_reader.specs.Slots.{IsMisread, ReadsNumber, ReadsSize, ReadsThread, ReadsPool, ReadsNextPool, ReadsNewName, ReadsWhat, IsPoolOf, IsPairOf, IsPlaceOf, is_text, is_printable};
 ghost use Rattle.trace_reader.specs.Contexts.{context_of};
 
 use crate::acts::What;
 use crate::context::Context;
-use crate::names::{BoundName, is_thread_name, read_bound_name};
+use crate::names::{is_bound_name, is_thread_name};
 use crate::numbers::read_number;
 use crate::refusal::Refusal;
-use crate::words::is_same;
+use crate::words::{is_same, parted_at};
 use pool_types::Place;
 use pool_types::limits::{MOST_POOLS, REGION_NUMBERS};
 
 /// The word at this place.
-pub fn word_at(words: &[Vec<u8>], at: usize) -> Result<&[u8], Refusal>
-    ensures { MatchResult result (λ word. slice_get (map items_of words.now) at ≡ Some word.now)
-        (λ refusal. (slice_get (map items_of words.now) at ≡ None) × (refusal ≡ Refusal.Spelling)) }
+pub fn word_at<'a>(words: &[&'a [u8]], at: usize) -> Result<&'a [u8], Refusal>
+    ensures { MatchResult result (λ word. slice_get (map bytes_in words.now) at ≡ Some word.now)
+        (λ refusal. (slice_get (map bytes_in words.now) at ≡ None) × (refusal ≡ Refusal.Spelling)) }
 {
     match words.get(at) {
-        Some(word) => Ok(word.as_slice()),
+        Some(word) => Ok(*word),
         None => Err(Refusal::Spelling),
     }
 }
@@ -75,8 +75,8 @@ pub fn number_in(low: u64, high: u64, word: &[u8]) -> Result<u64, Refusal>
 }
 
 /// The number in this range at this place.
-pub fn number_at(words: &[Vec<u8>], at: usize, low: u64, high: u64) -> Result<u64, Refusal>
-    ensures { WordAt (ReadsNumber low high) (map items_of words.now) at result }
+pub fn number_at(words: &[&[u8]], at: usize, low: u64, high: u64) -> Result<u64, Refusal>
+    ensures { WordAt (ReadsNumber low high) (map bytes_in words.now) at result }
 {
     number_in(low, high, word_at(words, at)?)
 }
@@ -93,13 +93,13 @@ fn pool_of(word: &[u8]) -> Option<u16>
 }
 
 /// The pool that was made, at this place.
-pub fn pool_at(context: &Context, words: &[Vec<u8>], at: usize) -> Result<u16, Refusal>
-    ensures { WordAt (ReadsPool (context_of context.now)) (map items_of words.now) at result }
+pub fn pool_at(context: &Context, words: &[&[u8]], at: usize) -> Result<u16, Refusal>
+    ensures { WordAt (ReadsPool (context_of context.now)) (map bytes_in words.now) at result }
 {
     let Some(pool) = pool_of(word_at(words, at)?) else {
         return Err(Refusal::Spelling);
     };
-    if pool < context.pools {
+    if usize::from(pool) < context.pools.len() {
         Ok(pool)
     } else {
         Err(Refusal::UnknownPool)
@@ -107,40 +107,40 @@ pub fn pool_at(context: &Context, words: &[Vec<u8>], at: usize) -> Result<u16, R
 }
 
 /// The next pool, at this place.
-pub fn next_pool_at(context: &Context, words: &[Vec<u8>], at: usize) -> Result<u16, Refusal>
-    ensures { WordAt (ReadsNextPool (context_of context.now)) (map items_of words.now) at result }
+pub fn next_pool_at(context: &Context, words: &[&[u8]], at: usize) -> Result<u16, Refusal>
+    ensures { WordAt (ReadsNextPool (context_of context.now)) (map bytes_in words.now) at result }
 {
     let word = word_at(words, at)?;
-    if MOST_POOLS <= context.pools {
+    if usize::from(MOST_POOLS) <= context.pools.len() {
         return Err(Refusal::TooMany);
     }
     let Some(pool) = pool_of(word) else {
         return Err(Refusal::Spelling);
     };
-    if pool == context.pools {
+    if usize::from(pool) == context.pools.len() {
         Ok(pool)
     } else {
         Err(Refusal::PoolOrder)
     }
 }
 
-/// The name that is bound here, at this place.
-pub fn new_name_at(context: &Context, words: &[Vec<u8>], at: usize) -> Result<BoundName, Refusal>
-    ensures { WordAt (ReadsNewName (context_of context.now)) (map items_of words.now) at result }
+/// The number of the name that is bound here, at this place.
+pub fn new_name_at(context: &Context, words: &[&[u8]], at: usize) -> Result<u32, Refusal>
+    ensures { WordAt (ReadsNewName (context_of context.now)) (map bytes_in words.now) at result }
 {
-    let Some(name) = read_bound_name(word_at(words, at)?) else {
+    let word = word_at(words, at)?;
+    if !is_bound_name(word) {
         return Err(Refusal::Spelling);
-    };
-    if context.has_bound(&name) {
-        Err(Refusal::BoundBefore)
-    } else {
-        Ok(name)
+    }
+    match context.number_of(word) {
+        Some(_) => Err(Refusal::BoundBefore),
+        None => Ok(context.count),
     }
 }
 
 /// The size at this place, where sizes above the small ones are served or not.
-pub fn size_at(all: bool, words: &[Vec<u8>], at: usize) -> Result<u64, Refusal>
-    ensures { WordAt (ReadsSize all) (map items_of words.now) at result }
+pub fn size_at(all: bool, words: &[&[u8]], at: usize) -> Result<u64, Refusal>
+    ensures { WordAt (ReadsSize all) (map bytes_in words.now) at result }
 {
     let size = number_in(0, u64::MAX, word_at(words, at)?)?;
     if all || size <= 8128 {
@@ -151,8 +151,8 @@ pub fn size_at(all: bool, words: &[Vec<u8>], at: usize) -> Result<u64, Refusal>
 }
 
 /// The thread at this place.
-pub fn thread_at(context: &Context, words: &[Vec<u8>], at: usize) -> Result<u8, Refusal>
-    ensures { WordAt (ReadsThread (context_of context.now)) (map items_of words.now) at result }
+pub fn thread_at(context: &Context, words: &[&[u8]], at: usize) -> Result<u8, Refusal>
+    ensures { WordAt (ReadsThread (context_of context.now)) (map bytes_in words.now) at result }
 {
     let word = word_at(words, at)?;
     if !is_thread_name(word) {
@@ -164,24 +164,11 @@ pub fn thread_at(context: &Context, words: &[Vec<u8>], at: usize) -> Result<u8, 
     }
 }
 
-/// What stands before the first plus, and what behind it.
-fn parted_at_plus(text: &[u8]) -> Option<(&[u8], &[u8])>
-    ensures { MatchOption result ((front rest : List ℕ) → text.now ≢ front ++ 43 ∷ rest)
-        (λ parts. (text.now ≡ parts.0.now ++ 43 ∷ parts.1.now) × HasNo 43 parts.0.now) }
-{
-    for (i, byte) in text.iter().enumerate() {
-        if *byte == b'+' {
-            return Some((&text[..i], &text[i + 1..]));
-        }
-    }
-    None
-}
-
 /// The numbers of a region and an offset, with a plus between them.
 fn read_pair(text: &[u8]) -> Option<(u32, u64)>
     ensures { IsPairOf text.now result }
 {
-    let Some((front, rest)) = parted_at_plus(text) else {
+    let Some((front, rest)) = parted_at(b'+', text) else {
         return None;
     };
     let Ok(region) = number_in(0, REGION_NUMBERS - 1, front) else {
@@ -220,11 +207,10 @@ fn read_what(context: &Context, word: &[u8]) -> Result<What, Refusal>
     if is_same(word, b"null") {
         return Ok(What::Null);
     }
-    if let Some(name) = read_bound_name(word) {
-        return if context.has_bound(&name) {
-            Ok(What::Name(name))
-        } else {
-            Err(Refusal::UnboundName)
+    if is_bound_name(word) {
+        return match context.number_of(word) {
+            Some(number) => Ok(What::Name(number)),
+            None => Err(Refusal::UnboundName),
         };
     }
     match read_place(word) {
@@ -234,14 +220,14 @@ fn read_what(context: &Context, word: &[u8]) -> Result<What, Refusal>
 }
 
 /// What the word at this place stands for.
-pub fn what_at(context: &Context, words: &[Vec<u8>], at: usize) -> Result<What, Refusal>
-    ensures { WordAt (ReadsWhat (context_of context.now)) (map items_of words.now) at result }
+pub fn what_at(context: &Context, words: &[&[u8]], at: usize) -> Result<What, Refusal>
+    ensures { WordAt (ReadsWhat (context_of context.now)) (map bytes_in words.now) at result }
 {
     read_what(context, word_at(words, at)?)
 }
 
 /// Nothing stands at this place or behind it.
-pub fn end_at(words: &[Vec<u8>], at: usize) -> Result<(), Refusal>
+pub fn end_at(words: &[&[u8]], at: usize) -> Result<(), Refusal>
     ensures { MatchResult result (λ _. length words.now ≤ at) (λ refusal. (refusal ≡ Refusal.Spelling) × (at < length words.now)) }
 {
     if at < words.len() {

@@ -1,6 +1,6 @@
 //! A line that names the threads.
 ghost use Rattle.std.specs.Prelude.{◌≡◌, ◌≢◌, ◌<◌, ◌≤◌, ℕ, [], true, false, map, drop, length, slice_get, Some};
-ghost use Rattle.trace_reader.specs.Words.{items_of};
+ghost use Rattle.trace_reader.specs.Words.{bytes_in};
 ghost use Rattle.trace_reader.specs.Acts.{AreThreadNames, IsNameJudged, KeywordLine, ReadsNames};
 ghost use Rattle.pool_types.specs.Texts.{name_bytes};
 ghost use Rattle.trace_reader.specs.Contexts.{context_of};
@@ -16,12 +16,12 @@ use pool_types::ThreadName;
 use pool_types::limits::MOST_THREADS;
 
 /// Whether the word stands among these.
-fn is_among(words: &[Vec<u8>], word: &[u8]) -> bool
-    ensures yes { result ≡ true → (k : ℕ) × (slice_get (map items_of words.now) k ≡ Some word.now) }
-    ensures no { result ≡ false → (k : ℕ) → slice_get (map items_of words.now) k ≢ Some word.now }
+fn is_among(words: &[&[u8]], word: &[u8]) -> bool
+    ensures yes { result ≡ true → (k : ℕ) × (slice_get (map bytes_in words.now) k ≡ Some word.now) }
+    ensures no { result ≡ false → (k : ℕ) → slice_get (map bytes_in words.now) k ≢ Some word.now }
 {
     for other in words {
-        if is_same(other.as_slice(), word) {
+        if is_same(other, word) {
             return true;
         }
     }
@@ -29,8 +29,8 @@ fn is_among(words: &[Vec<u8>], word: &[u8]) -> bool
 }
 
 /// Whether the word may stand as a name behind these.
-fn judge_name(more: bool, had: &[Vec<u8>], word: &[u8]) -> Result<(), Refusal>
-    ensures { IsNameJudged more (map items_of had.now) word.now result }
+fn judge_name(more: bool, had: &[&[u8]], word: &[u8]) -> Result<(), Refusal>
+    ensures { IsNameJudged more (map bytes_in had.now) word.now result }
 {
     if !had.is_empty() && !more {
         return Err(Refusal::NotServed);
@@ -48,11 +48,11 @@ fn judge_name(more: bool, had: &[Vec<u8>], word: &[u8]) -> Result<(), Refusal>
 }
 
 /// A line of these names.
-fn names_line(more: bool, names: &[Vec<u8>]) -> Result<Act, Refusal>
-    ensures { ReadsNames more [] (map items_of names.now) result }
+fn names_line(more: bool, names: &[&[u8]]) -> Result<Act, Refusal>
+    ensures { ReadsNames more [] (map bytes_in names.now) result }
 {
     for (i, name) in names.iter().enumerate() {
-        judge_name(more, &names[..i], name.as_slice())?;
+        judge_name(more, &names[..i], name)?;
     }
     if names.is_empty() {
         return Err(Refusal::Spelling);
@@ -61,24 +61,24 @@ fn names_line(more: bool, names: &[Vec<u8>]) -> Result<Act, Refusal>
 }
 
 /// A line that names the threads.
-pub fn threads_line(more: bool, context: &Context, words: &[Vec<u8>]) -> Result<Act, Refusal>
+pub fn threads_line(more: bool, context: &Context, words: &[&[u8]]) -> Result<Act, Refusal>
     requires { 0 < length words.now }
-    ensures { KeywordLine more (context_of context.now) ThreadsWord (map items_of words.now) result }
+    ensures { KeywordLine more (context_of context.now) ThreadsWord (map bytes_in words.now) result }
 {
-    if !context.names.is_empty() || context.pools != 0 {
+    if !context.names.is_empty() || !context.pools.is_empty() {
         return Err(Refusal::ThreadsAgain);
     }
     names_line(more, &words[1..])
 }
 
 /// The names that the words spell.
-pub fn thread_names(words: &[Vec<u8>]) -> ArrayVec<ThreadName, MOST_THREADS>
-    requires { AreThreadNames (map items_of words.now) }
-    ensures { map name_bytes result.items ≡ map items_of words.now }
+pub fn thread_names(words: &[&[u8]]) -> ArrayVec<ThreadName, MOST_THREADS>
+    requires { AreThreadNames (map bytes_in words.now) }
+    ensures { map name_bytes result.items ≡ map bytes_in words.now }
 {
     let mut names: ArrayVec<ThreadName, MOST_THREADS> = ArrayVec::new();
     for word in words {
-        let Some(name) = read_thread_name(word.as_slice()) else {
+        let Some(name) = read_thread_name(word) else {
             unreachable!();
         };
         names.push(name);

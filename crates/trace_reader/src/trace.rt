@@ -1,24 +1,25 @@
 //! Reads a whole trace.
 ghost use Rattle.std.specs.Prelude.{◌≡◌, ◌<◌, ◌≤◌, ◌+◌, ◌^◌, ℕ, List, map, length, IfOk, true, false};
-ghost use Rattle.trace_reader.specs.Words.{items_of};
 ghost use Rattle.trace_reader.specs.Contexts.{context_of};
 ghost use Rattle.trace_reader.specs.Text.{ReadsLine, ReadsTrace, is_skipped};
-ghost use Rattle.trace_reader.specs.Steps.{AddsLine, AreReadAs};
+ghost use Rattle.trace_reader.specs.Steps.{AddsLine, IsOutcome};
 
-use crate::acts::{Act, Forms, TraceLine};
+use crate::acts::{Act, Forms, PoolOption, TraceLine};
 use crate::context::Context;
 use crate::line::read_words;
 use crate::refusal::{Refusal, TraceError, TraceRefused};
-use crate::words::split_parts;
+use crate::words::{parted_at, split_parts};
 use arrayvec::ArrayVec;
 use pool_types::limits::{MOST_LINE_BYTES, MOST_LINES, MOST_THREADS};
 use pool_types::{ThreadName, Threads};
 use std::alloc::{AllocError, Global};
 
-/// A trace that was read: the names of its threads, in their order, and what its lines do.
+/// A trace that was read: the names of its threads, in their order, the options of its pools, by the pools' numbers, and
+/// what its lines do.
 #[derive(Drop)]
 pub struct Trace {
     pub names: ArrayVec<ThreadName, MOST_THREADS>,
+    pub pools: Vec<ArrayVec<PoolOption, 9>>,
     pub lines: Vec<TraceLine>,
 }
 
@@ -28,6 +29,13 @@ impl Trace {
         ensures { result.now ≡ self.now.names.items }
     {
         self.names.as_slice()
+    }
+
+    /// The options of the pools, by the pools' numbers.
+    pub fn pools(&self) -> &[ArrayVec<PoolOption, 9>]
+        ensures { result.now ≡ self.now.pools.items }
+    {
+        self.pools.as_slice()
     }
 
     /// What the lines do. A line that is skipped is none of them.
@@ -66,14 +74,15 @@ struct Reading {
 }
 
 impl Reading {
-    /// Reads one more line, or says what is wrong with it.
-    fn add(
+    /// Reads one more line, or says what is wrong with it. `words` is room for the words of a line.
+    fn add<'a>(
         &mut self,
-        alloc: Global,
+        words: &mut Vec<&'a [u8]>,
         forms: Forms,
         number: u32,
-        text: &[u8],
+        text: &'a [u8],
     ) -> Result<Option<Refusal>, AllocError>
+        requires { self.old.context.count < number }
         ensures { IfOk result (λ refused. AddsLine forms number text.now (context_of self.old.context) self.old.lines.items refused
             (context_of self.new.context) self.new.lines.items) }
     {
@@ -86,7 +95,7 @@ impl Reading {
         if is_skipped(text) {
             return Ok(None);
         }
-        let words = split_parts(alloc, b' ', text)?;
+        split_parts(b' ', text, words)?;
         match read_words(forms, &self.context, words.as_slice()) {
             Ok(act) => {
                 self.context.enter(words.as_slice(), &act)?;
@@ -96,16 +105,23 @@ impl Reading {
             Err(refusal) => Ok(Some(refusal)),
         }
     }
-}
 
-impl Reading {
     /// What was read.
     fn into_trace(self) -> Trace
-        ensures { (result.names ≡ self.context.names) × (result.lines ≡ self.lines) }
+        ensures names { result.names ≡ self.context.names }
+        ensures pools { result.pools ≡ self.context.pools }
+        ensures lines { result.lines ≡ self.lines }
     {
         let Reading { context, lines } = self;
+        let Context {
+            names,
+            pools,
+            bound: _bound,
+            count: _,
+        } = context;
         Trace {
-            names: context.into_names(),
+            names,
+            pools,
             lines,
         }
     }
@@ -118,41 +134,36 @@ enum Outcome {
     FirstRefused(u32, Refusal),
 }
 
-/// Reads lines one after another, and then what stands behind the last newline.
-fn read_texts(
-    alloc: Global,
-    forms: Forms,
-    texts: &[Vec<u8>],
-    last: &[u8],
-) -> Result<Outcome, AllocError>
-    ensures { IfOk result (λ outcome. AreReadAs forms (map items_of texts.now) last.now outcome) }
+/// Reads lines one after another, to the end or to the first that is refused.
+fn read_lines(alloc: Global, forms: Forms, bytes: &[u8]) -> Result<Outcome, AllocError>
+    ensures { IfOk result (λ outcome. IsOutcome forms bytes.now outcome) }
 {
     let mut reading = Reading {
         context: Context::new(alloc),
         lines: Vec::new(alloc),
     };
-    for (i, text) in texts.iter().enumerate() {
-        let number = i as u32 + 1;
-        if let Some(refusal) = reading.add(alloc, forms, number, text.as_slice())? {
+    let mut words = Vec::new(alloc);
+    let mut number = 1;
+    let mut rest = bytes;
+    while let Some((text, more)) = parted_at(b'\n', rest) {
+        if let Some(refusal) = reading.add(&mut words, forms, number, text)? {
             return Ok(Outcome::FirstRefused(number, refusal));
         }
+        number += 1;
+        rest = more;
     }
-    if !last.is_empty() {
-        return Ok(Outcome::FirstRefused(texts.len() as u32 + 1, Refusal::NoNewline));
+    if !rest.is_empty() {
+        return Ok(Outcome::FirstRefused(number, Refusal::NoNewline));
     }
     Ok(Outcome::AllRead(reading.into_trace()))
 }
 
-/// Reads a whole trace, of the forms that are served. Bad is its first refused line, with the first kind of what is
-/// wrong with it.
+/// Reads a whole trace, of the forms that are served, in one pass. Bad is its first refused line, with the first kind of
+/// what is wrong with it; what stands behind that line is not read.
 pub fn read_trace(alloc: Global, bytes: &[u8], forms: Forms) -> Result<Trace, TraceRefused>
     ensures { ReadsTrace forms bytes.now result }
 {
-    let mut texts = split_parts(alloc, b'\n', bytes)?;
-    let Some(last) = texts.pop() else {
-        unreachable!();
-    };
-    match read_texts(alloc, forms, texts.as_slice(), last.as_slice())? {
+    match read_lines(alloc, forms, bytes)? {
         Outcome::AllRead(trace) => Ok(trace),
         Outcome::FirstRefused(line, refusal) => Err(TraceRefused::Bad(TraceError {
             line,

@@ -1,8 +1,8 @@
 //! The parts of a text: its lines, and the words of a line.
-ghost use Rattle.std.specs.Prelude.{◌≡◌, ◌≢◌, true, false, List, ℕ, ◌∷◌, map, IfOk, OnOk};
-ghost use Rattle.trace_reader.specs.Words.{split_on, joined, items_of};
+ghost use Rattle.std.specs.Prelude.{◌≡◌, ◌≢◌, true, false, List, ℕ, ◌∷◌, ◌++◌, map, OnOk, MatchOption};
+ghost use Rattle.trace_reader.specs.Words.{HasNo, split_on, bytes_in};
 
-use std::alloc::{AllocError, Global};
+use std::alloc::AllocError;
 
 /// Whether the bytes are the same.
 pub fn is_same(one: &[u8], other: &[u8]) -> bool
@@ -12,35 +12,33 @@ pub fn is_same(one: &[u8], other: &[u8]) -> bool
     one == other
 }
 
-/// Takes one more byte of a text: it ends the part, or goes on with it.
-fn add_byte(
-    alloc: Global,
-    separator: u8,
-    parts: &mut Vec<Vec<u8>>,
-    part: &mut Vec<u8>,
-    byte: u8,
-) -> Result<(), AllocError>
-    ensures { OnOk result ((rest : List ℕ) → joined (map items_of parts.new.items) part.new.items (split_on separator rest)
-        ≡ joined (map items_of parts.old.items) part.old.items (split_on separator (byte ∷ rest))) }
+/// What stands before the first such byte, and what behind it.
+pub fn parted_at(byte: u8, text: &[u8]) -> Option<(&[u8], &[u8])>
+    ensures { MatchOption result (HasNo byte text.now)
+        (λ parts. (text.now ≡ parts.0.now ++ byte ∷ parts.1.now) × HasNo byte parts.0.now) }
 {
-    if byte == separator {
-        let ended = std::mem::replace(part, Vec::new(alloc));
-        parts.push(ended)?;
-        return Ok(());
+    for (i, other) in text.iter().enumerate() {
+        if *other == byte {
+            return Some((&text[..i], &text[i + 1..]));
+        }
     }
-    part.push(byte)?;
-    Ok(())
+    None
 }
 
-/// The parts of a text that the separators divide: one more than there are separators.
-pub fn split_parts(alloc: Global, separator: u8, text: &[u8]) -> Result<Vec<Vec<u8>>, AllocError>
-    ensures { IfOk result (λ parts. map items_of parts.items ≡ split_on separator text.now) }
+/// The parts of a text that the separators divide, one more than there are separators, in place of what the list had.
+pub fn split_parts<'a>(
+    separator: u8,
+    text: &'a [u8],
+    parts: &mut Vec<&'a [u8]>,
+) -> Result<(), AllocError>
+    ensures { OnOk result (map bytes_in parts.new.items ≡ split_on separator text.now) }
 {
-    let mut parts = Vec::new(alloc);
-    let mut part = Vec::new(alloc);
-    for byte in text {
-        add_byte(alloc, separator, &mut parts, &mut part, *byte)?;
+    parts.clear();
+    let mut rest = text;
+    while let Some((part, more)) = parted_at(separator, rest) {
+        parts.push(part)?;
+        rest = more;
     }
-    parts.push(part)?;
-    Ok(parts)
+    parts.push(rest)?;
+    Ok(())
 }

@@ -1,6 +1,6 @@
 use super::*;
 use crate::acts::{PoolOption, TraceCall, What};
-use pool_types::Row;
+use pool_types::{Place, Row};
 use std::test::Fail;
 
 /// The number of lines that were read, or the line and the kind of what is refused.
@@ -257,6 +257,15 @@ fn refuses_lines_that_are_too_long_or_too_many(rt: HostRuntime) -> Result<(), Fa
     Ok(())
 }
 
+/// A whole call of the first thread on the first pool.
+fn whole(call: TraceCall) -> Act {
+    Act::Call {
+        thread: 0,
+        pool: 0,
+        call,
+    }
+}
+
 #[test]
 fn gives_back_what_the_lines_do(rt: HostRuntime) -> Result<(), Fail> {
     let text =
@@ -267,46 +276,86 @@ fn gives_back_what_the_lines_do(rt: HostRuntime) -> Result<(), Fail> {
     let names = trace.threads();
     assert_eq!(rt; names.len(), 2);
     assert_eq!(rt; names[1].bytes.as_slice(), b"B2".as_slice());
-    let lines = trace.lines();
-    assert_eq!(rt; lines.len(), 5);
-    assert!(rt; matches!(&lines[0].act, Act::Threads));
-    assert_eq!(rt; lines[1].line, 3);
-    match &lines[1].act {
-        Act::Pool { pool, options } => {
-            assert_eq!(rt; *pool, 0);
-            assert_eq!(rt; options.as_slice(), [PoolOption::Span(5)].as_slice());
-        }
-        _ => return Err(Fail::from("no pool line")),
-    }
-    match &lines[2].act {
-        Act::Call {
-            thread,
-            pool,
-            call: TraceCall::Malloc { name, size },
-        } => {
-            assert_eq!(rt; (*thread, *pool, *size), (1, 0, 8));
-            assert_eq!(rt; name.bytes.as_slice(), b"x".as_slice());
-        }
-        _ => return Err(Fail::from("no malloc")),
-    }
-    match &lines[3].act {
-        Act::Call {
-            call: TraceCall::Free {
-                what: What::Place(place),
+    assert_eq!(rt; trace.pools().len(), 1);
+    assert_eq!(rt;
+        trace.pools()[0].as_slice(),
+        [PoolOption::Span(5)].as_slice()
+    );
+    let place = Place {
+        pool: 0,
+        region: 12,
+        offset: 16,
+    };
+    let want = [
+        (1, Act::Threads),
+        (3, Act::Pool { pool: 0 }),
+        (
+            4,
+            Act::Call {
+                thread: 1,
+                pool: 0,
+                call: TraceCall::Malloc { name: 0, size: 8 },
             },
-            ..
-        } => assert_eq!(rt; (place.pool, place.region, place.offset), (0, 12, 16)),
-        _ => return Err(Fail::from("no free")),
-    }
-    assert!(rt;
-        matches!(
-            &lines[4].act,
+        ),
+        (
+            5,
+            whole(TraceCall::Free {
+                what: What::Place(place),
+            }),
+        ),
+        (
+            6,
             Act::UpTo {
                 thread: 0,
                 pool: 0,
-                row: Row::G4
-            }
-        )
-    );
+                row: Row::G4,
+            },
+        ),
+    ];
+    let lines = trace.lines();
+    assert_eq!(rt; lines.len(), want.len());
+    for (line, (number, act)) in lines.iter().zip(want.iter()) {
+        assert_eq!(rt; (line.line, line.act), (*number, *act));
+    }
+    Ok(())
+}
+
+#[test]
+fn names_are_numbered_as_they_are_bound(rt: HostRuntime) -> Result<(), Fail> {
+    let text = b"threads A\npool P0\npool P1 keep\nA P0 zz = malloc 8\nA P0 a = malloc 9\n\
+        begin A P1 b = realloc a 3\nA P0 free zz\nA P0 msize b\nA P0 c = realloc b 1\n";
+    let trace = read_trace(rt.alloc(), text.as_slice(), Forms::All)
+        .ok()
+        .ok_or("refused")?;
+    let pools = trace.pools();
+    assert_eq!(rt; pools.len(), 2);
+    assert!(rt; pools[0].is_empty());
+    assert_eq!(rt; pools[1].as_slice(), [PoolOption::Keep].as_slice());
+    let realloc = |name, what, size| TraceCall::Realloc {
+        name,
+        what: What::Name(what),
+        size,
+    };
+    let want = [
+        whole(TraceCall::Malloc { name: 0, size: 8 }),
+        whole(TraceCall::Malloc { name: 1, size: 9 }),
+        Act::Begin {
+            thread: 0,
+            pool: 1,
+            call: realloc(2, 1, 3),
+        },
+        whole(TraceCall::Free {
+            what: What::Name(0),
+        }),
+        whole(TraceCall::Msize {
+            what: What::Name(2),
+        }),
+        whole(realloc(3, 2, 1)),
+    ];
+    let lines = trace.lines();
+    assert_eq!(rt; lines.len(), 3 + want.len());
+    for (line, act) in lines[3..].iter().zip(want.iter()) {
+        assert_eq!(rt; line.act, *act);
+    }
     Ok(())
 }

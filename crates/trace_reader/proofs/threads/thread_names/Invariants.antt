@@ -1,7 +1,7 @@
 use Rattle.std.proofs.Common.{◌≡◌, take, map}
-use Rattle.trace_reader.specs.Words.{items_of}
+use Rattle.trace_reader.specs.Words.{bytes_in}
 use Rattle.pool_types.specs.Texts.{name_bytes}
 use Rattle.trace_reader.proofs.threads.thread_names.Given as goal
 
 abbrev pub invariant-loop-word : goal.invariant-loop-word
-invariant-loop-word l = map name_bytes l.names.items ≡ map items_of (take l.word-index l.words)
+invariant-loop-word l = map name_bytes l.names.items ≡ map bytes_in (take l.word-index l.words)
