@@ -1,5 +1,6 @@
 -- The texts of entries, one after another.
 use Rattle.std.proofs.Common.{◌≡◌, ℕ, List, [], ◌∷◌, ◌++◌, refl, sym, append_assoc, ap, ◌∙◌}
+use Rattle.std.specs.Prelude.{OnOk, Result, Ok, Err}
 use Rattle.std.proofs.lemmas.List.{append-nil}
 use Rattle.report_text.specs.declared.entry.ReportEntry.{ReportEntry}
 use Rattle.report_text.specs.Entries.{entry_text, entries_text}
@@ -26,3 +27,8 @@ entries_text-added old names text entry same added entries has =
     ∙ ap (λ (text : List ℕ). text ++ entry_text old.names entry) has
     ∙ sym (entries_text-more old.names entries entry)
     ∙ ap (λ (names : List (List ℕ)). entries_text names (entries ++ entry ∷ [])) (sym same)
+
+-- one piece of an entry, and then another
+pub worded_after : {A E : Type 0} (added : Result A E) (start middle end first second : List ℕ) → middle ≡ start ++ first → OnOk added (end ≡ middle ++ second) → OnOk added (end ≡ start ++ (first ++ second))
+worded_after (Ok done) start middle end first second is more = more ∙ ap (λ (text : List ℕ). text ++ second) is ∙ append_assoc start first second
+worded_after (Err failed) start middle end first second is more = tt

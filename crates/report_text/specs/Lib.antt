@@ -1,3 +1,4 @@
+pub mod Draft
 pub mod Pieces
 pub mod Answers
 pub mod Moves

@@ -13,8 +13,14 @@ region_totals_text totals = codes " regions " ++ (decimal totals.regions ++ (cod
 unfoldable pub slab_totals_text : Totals → List ℕ
 slab_totals_text totals = codes " head " ++ (decimal totals.head ++ (codes " rest " ++ (decimal totals.rest ++ (codes " private " ++ (decimal totals.private ++ (codes " public " ++ decimal totals.public))))))
 
-unfoldable pub object_totals_text : Totals → List ℕ
-object_totals_text totals = codes " object " ++ (decimal totals.object ++ (codes " large-head " ++ (decimal totals.large_head ++ (codes " slab-cache " ++ (decimal totals.slab_cache ++ (codes " cached " ++ decimal totals.cached))))))
+unfoldable pub held_totals_text : Totals → List ℕ
+held_totals_text totals = codes " object " ++ (decimal totals.object ++ (codes " large-head " ++ decimal totals.large_head))
+
+unfoldable pub cached_totals_text : Totals → List ℕ
+cached_totals_text totals = codes " slab-cache " ++ (decimal totals.slab_cache ++ (codes " cached " ++ decimal totals.cached))
+
+abbrev pub object_totals_text : Totals → List ℕ
+object_totals_text totals = held_totals_text totals ++ cached_totals_text totals
 
 unfoldable pub block_totals_text : Totals → List ℕ
 block_totals_text totals = codes " bin " ++ (decimal totals.bin ++ (codes " queue " ++ (decimal totals.queue ++ (codes " hand " ++ decimal totals.hand))))

@@ -3,8 +3,8 @@
 //! A `Report` keeps the names of a trace's threads and the texts of its entries so far; `write_report` writes them, and
 //! then `end`. The report is this project's own; `docs/trace.md` has its form.
 //!
-//! Modules: `entry` (what a report tells), `report` (the report and its writing), `lines` (the text of an entry), and
-//! what lines are made of: `answers`, `moves`, `totals` and `pieces`.
+//! Modules: `entry` (what a report tells), `report` (the report and its writing), `text` (a text that is written in
+//! place), `lines` (the text of an entry), and what lines are made of: `answers`, `moves`, `totals` and `pieces`.
 #![tactic(auto)]
 
 mod answers;
@@ -16,6 +16,7 @@ mod pieces;
 mod report;
 #[cfg(test)]
 mod tests;
+mod text;
 mod totals;
 
 pub use entry::{BinNumbers, Fate, ReportEntry};

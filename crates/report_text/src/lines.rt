@@ -1,5 +1,6 @@
 //! The text of an entry.
 ghost use Rattle.std.specs.Prelude.{◌≡◌, ◌++◌, OnOk, codes, length};
+ghost use Rattle.std.specs.Fmt.{decimal};
 ghost use Rattle.pool_types.specs.Texts.{names_of};
 ghost use Rattle.report_text.specs.Pieces.{name_of};
 ghost use Rattle.report_text.specs.Answers.{answer_text};
@@ -10,9 +11,10 @@ use crate::answers::add_answer;
 use crate::entry::{Fate, ReportEntry};
 use crate::moves::{add_keeper_move, add_move};
 use crate::pieces::add_name;
+use crate::report::NoMemory;
+use crate::text::Text;
 use crate::totals::{add_cache, add_leak, add_total};
 use pool_types::{Answer, Awaited, RegionRec, ThreadName, Which};
-use std::io::{self, Write};
 
 /// The limit that is out of its range.
 fn limits_text(limit: Which) -> &'static [u8]
@@ -49,104 +51,121 @@ fn fate_text(fate: Fate) -> &'static [u8]
     }
 }
 
-/// Adds the line's number, and these words.
-fn add_line(text: &mut Vec<u8>, line: u32, words: &[u8]) -> io::Result<()>
-    ensures { OnOk result (text.new.items ≡ text.old.items ++ line_text line words.now) }
+/// Adds the line's number and a space.
+fn add_line_number(text: &mut Text, line: u32) -> Result<(), NoMemory>
+    ensures added { OnOk result (text.new.begun ≡ text.old.begun ++ (decimal line ++ codes " ")) }
+    ensures kept { text.new.whole ≡ text.old.whole }
 {
-    write!(text, "{line} ")?;
-    text.write_all(words)?;
-    text.write_all(b"\n")
+    text.number(u64::from(line))?;
+    text.word(b" ")
+}
+
+/// Adds the line's number, and these words.
+fn add_line(text: &mut Text, line: u32, words: &[u8]) -> Result<(), NoMemory>
+    ensures added { OnOk result (text.new.begun ≡ text.old.begun ++ line_text line words.now) }
+    ensures kept { text.new.whole ≡ text.old.whole }
+{
+    add_line_number(text, line)?;
+    text.word(words)?;
+    text.word(b"\n")
 }
 
 /// Adds that the last call of this seat's thread is not done.
-fn add_call_open(text: &mut Vec<u8>, names: &[ThreadName], line: u32, seat: u8) -> io::Result<()>
+fn add_call_open(text: &mut Text, names: &[ThreadName], line: u32, seat: u8) -> Result<(), NoMemory>
     requires { HasName (length names.now) seat }
-    ensures { OnOk result (text.new.items ≡ text.old.items ++ line_text line (codes "call-open " ++ name_of (names_of names.now) seat)) }
+    ensures added { OnOk result (text.new.begun ≡ text.old.begun ++ line_text line (codes "call-open " ++ name_of (names_of names.now) seat)) }
+    ensures kept { text.new.whole ≡ text.old.whole }
 {
-    write!(text, "{line} call-open ")?;
+    add_line_number(text, line)?;
+    text.word(b"call-open ")?;
     add_name(text, names, seat)?;
-    text.write_all(b"\n")
+    text.word(b"\n")
 }
 
 /// Adds the answer that a line came to.
 fn add_answer_line(
-    text: &mut Vec<u8>,
+    text: &mut Text,
     names: &[ThreadName],
     line: u32,
     answer: Answer,
-) -> io::Result<()>
+) -> Result<(), NoMemory>
     requires { IsAnswerNamed (length names.now) answer }
-    ensures { OnOk result (text.new.items ≡ text.old.items ++ line_text line (answer_text (names_of names.now) answer)) }
+    ensures added { OnOk result (text.new.begun ≡ text.old.begun ++ line_text line (answer_text (names_of names.now) answer)) }
+    ensures kept { text.new.whole ≡ text.old.whole }
 {
-    write!(text, "{line} ")?;
+    add_line_number(text, line)?;
     add_answer(text, names, answer)?;
-    text.write_all(b"\n")
+    text.word(b"\n")
 }
 
 /// Adds how many regions had each fate, and how many objects were held.
 #[tactic(auto, unfolding(crate::specs::Entries::destroyed_text))]
 fn add_destroyed(
-    text: &mut Vec<u8>,
+    text: &mut Text,
     returned: u64,
     refused: u64,
     kept: u64,
     objects: u64,
-) -> io::Result<()>
-    ensures { OnOk result (text.new.items ≡ text.old.items ++ destroyed_text returned refused kept objects) }
+) -> Result<(), NoMemory>
+    ensures added { OnOk result (text.new.begun ≡ text.old.begun ++ destroyed_text returned refused kept objects) }
+    ensures kept { text.new.whole ≡ text.old.whole }
 {
-    write!(
-        text,
-        "destroyed returned {returned} refused {refused} kept {kept} objects {objects}"
-    )
+    text.worded(b"destroyed returned ", returned)?;
+    text.worded(b" refused ", refused)?;
+    text.worded(b" kept ", kept)?;
+    text.worded(b" objects ", objects)
 }
 
 /// Adds the line of a pool that was destroyed.
 fn add_destroyed_line(
-    text: &mut Vec<u8>,
+    text: &mut Text,
     line: u32,
     returned: u64,
     refused: u64,
     kept: u64,
     objects: u64,
-) -> io::Result<()>
-    ensures { OnOk result (text.new.items ≡ text.old.items ++ line_text line (destroyed_text returned refused kept objects)) }
+) -> Result<(), NoMemory>
+    ensures added { OnOk result (text.new.begun ≡ text.old.begun ++ line_text line (destroyed_text returned refused kept objects)) }
+    ensures kept { text.new.whole ≡ text.old.whole }
 {
-    write!(text, "{line} ")?;
+    add_line_number(text, line)?;
     add_destroyed(text, returned, refused, kept, objects)?;
-    text.write_all(b"\n")
+    text.word(b"\n")
 }
 
 /// Adds a region's number, its base and its bytes.
 #[tactic(auto, unfolding(crate::specs::Entries::region_text))]
-fn add_region(text: &mut Vec<u8>, pool: u16, rec: RegionRec) -> io::Result<()>
-    ensures { OnOk result (text.new.items ≡ text.old.items ++ region_text pool rec) }
+fn add_region(text: &mut Text, pool: u16, rec: RegionRec) -> Result<(), NoMemory>
+    ensures added { OnOk result (text.new.begun ≡ text.old.begun ++ region_text pool rec) }
+    ensures kept { text.new.whole ≡ text.old.whole }
 {
-    write!(
-        text,
-        "region P{pool}.R{} {} {}",
-        rec.number, rec.region.base, rec.region.bytes
-    )
+    text.worded(b"region P", u64::from(pool))?;
+    text.worded(b".R", u64::from(rec.number))?;
+    text.worded(b" ", rec.region.base)?;
+    text.worded(b" ", rec.region.bytes)
 }
 
 /// Adds the line of a region of a pool that was destroyed.
 #[tactic(auto, unfolding(crate::specs::Entries::region_left_text))]
-fn add_region_line(text: &mut Vec<u8>, pool: u16, rec: RegionRec, fate: Fate) -> io::Result<()>
-    ensures { OnOk result (text.new.items ≡ text.old.items ++ region_left_text pool rec fate) }
+fn add_region_line(text: &mut Text, pool: u16, rec: RegionRec, fate: Fate) -> Result<(), NoMemory>
+    ensures added { OnOk result (text.new.begun ≡ text.old.begun ++ region_left_text pool rec fate) }
+    ensures kept { text.new.whole ≡ text.old.whole }
 {
     add_region(text, pool, rec)?;
-    text.write_all(b" ")?;
-    text.write_all(fate_text(fate))?;
-    text.write_all(b"\n")
+    text.word(b" ")?;
+    text.word(fate_text(fate))?;
+    text.word(b"\n")
 }
 
 /// Adds the text of an entry.
 pub(crate) fn add_entry(
-    text: &mut Vec<u8>,
+    text: &mut Text,
     names: &[ThreadName],
     entry: ReportEntry,
-) -> io::Result<()>
+) -> Result<(), NoMemory>
     requires { IsNamed (length names.now) entry }
-    ensures { OnOk result (text.new.items ≡ text.old.items ++ entry_text (names_of names.now) entry) }
+    ensures added { OnOk result (text.new.begun ≡ text.old.begun ++ entry_text (names_of names.now) entry) }
+    ensures kept { text.new.whole ≡ text.old.whole }
 {
     match entry {
         ReportEntry::Made { line } => add_line(text, line, b"made"),

@@ -5,79 +5,85 @@ ghost use Rattle.report_text.specs.Pieces.{name_of, grant_text};
 ghost use Rattle.report_text.specs.Moves.{holder_text, side_text, keeper_text, step_text, range_text, sides_text, keepers_text, move_text, keeper_move_text};
 ghost use Rattle.report_text.specs.Named.{HasName, IsHolderNamed, IsSideNamed, IsKeeperNamed};
 
-use crate::pieces::{add_grant, add_name};
+use crate::pieces::{add_grant, add_name, add_place};
+use crate::report::NoMemory;
+use crate::text::Text;
 use part_model::{Holder, Part, Range};
-use pool_types::{Grant, Keeper, KeeperChange, Row, ThreadName, add_place};
-use std::io::{self, Write};
+use pool_types::{Grant, Keeper, KeeperChange, Row, ThreadName};
 
 /// Adds a word, and then a grant.
 fn add_word_and_grant(
-    text: &mut Vec<u8>,
+    text: &mut Text,
     word: &[u8],
     names: &[ThreadName],
     grant: Grant,
-) -> io::Result<()>
+) -> Result<(), NoMemory>
     requires { HasName (length names.now) grant.seat }
-    ensures { OnOk result (text.new.items ≡ text.old.items ++ (word.now ++ grant_text (names_of names.now) grant)) }
+    ensures added { OnOk result (text.new.begun ≡ text.old.begun ++ (word.now ++ grant_text (names_of names.now) grant)) }
+    ensures kept { text.new.whole ≡ text.old.whole }
 {
-    text.write_all(word)?;
+    text.word(word)?;
     add_grant(text, names, grant)
 }
 
 /// Adds a word, and then the name of the seat's thread.
 fn add_word_and_name(
-    text: &mut Vec<u8>,
+    text: &mut Text,
     word: &[u8],
     names: &[ThreadName],
     seat: u8,
-) -> io::Result<()>
+) -> Result<(), NoMemory>
     requires { HasName (length names.now) seat }
-    ensures { OnOk result (text.new.items ≡ text.old.items ++ (word.now ++ name_of (names_of names.now) seat)) }
+    ensures added { OnOk result (text.new.begun ≡ text.old.begun ++ (word.now ++ name_of (names_of names.now) seat)) }
+    ensures kept { text.new.whole ≡ text.old.whole }
 {
-    text.write_all(word)?;
+    text.word(word)?;
     add_name(text, names, seat)
 }
 
 /// Adds who holds bytes.
-fn add_holder(text: &mut Vec<u8>, names: &[ThreadName], holder: Holder) -> io::Result<()>
+fn add_holder(text: &mut Text, names: &[ThreadName], holder: Holder) -> Result<(), NoMemory>
     requires { IsHolderNamed (length names.now) holder }
-    ensures { OnOk result (text.new.items ≡ text.old.items ++ holder_text (names_of names.now) holder) }
+    ensures added { OnOk result (text.new.begun ≡ text.old.begun ++ holder_text (names_of names.now) holder) }
+    ensures kept { text.new.whole ≡ text.old.whole }
 {
     match holder {
-        Holder::Waste => text.write_all(b"waste"),
-        Holder::Head => text.write_all(b"head"),
-        Holder::Rest => text.write_all(b"rest"),
-        Holder::Private => text.write_all(b"private"),
-        Holder::Public => text.write_all(b"public"),
+        Holder::Waste => text.word(b"waste"),
+        Holder::Head => text.word(b"head"),
+        Holder::Rest => text.word(b"rest"),
+        Holder::Private => text.word(b"private"),
+        Holder::Public => text.word(b"public"),
         Holder::Object(grant) => add_word_and_grant(text, b"object:", names, grant),
         Holder::LargeHead(grant) => add_word_and_grant(text, b"large-head:", names, grant),
         Holder::SlabCache(seat) => add_word_and_name(text, b"slab-cache:", names, seat),
-        Holder::Cached(granules) => write!(text, "cached:{granules}"),
-        Holder::Bin => text.write_all(b"bin"),
-        Holder::Queue => text.write_all(b"queue"),
+        Holder::Cached(granules) => text.worded(b"cached:", u64::from(granules)),
+        Holder::Bin => text.word(b"bin"),
+        Holder::Queue => text.word(b"queue"),
         Holder::Hand(seat) => add_word_and_name(text, b"hand:", names, seat),
     }
 }
 
 /// Adds one side of a move.
-fn add_side(text: &mut Vec<u8>, names: &[ThreadName], side: Option<Holder>) -> io::Result<()>
+fn add_side(text: &mut Text, names: &[ThreadName], side: Option<Holder>) -> Result<(), NoMemory>
     requires { IsSideNamed (length names.now) side }
-    ensures { OnOk result (text.new.items ≡ text.old.items ++ side_text (names_of names.now) side) }
+    ensures added { OnOk result (text.new.begun ≡ text.old.begun ++ side_text (names_of names.now) side) }
+    ensures kept { text.new.whole ≡ text.old.whole }
 {
     match side {
         Some(holder) => add_holder(text, names, holder),
-        None => text.write_all(b"none"),
+        None => text.word(b"none"),
     }
 }
 
 /// Adds who keeps a slab.
-fn add_keeper(text: &mut Vec<u8>, names: &[ThreadName], keeper: Keeper) -> io::Result<()>
+fn add_keeper(text: &mut Text, names: &[ThreadName], keeper: Keeper) -> Result<(), NoMemory>
     requires { IsKeeperNamed (length names.now) keeper }
-    ensures { OnOk result (text.new.items ≡ text.old.items ++ keeper_text (names_of names.now) keeper) }
+    ensures added { OnOk result (text.new.begun ≡ text.old.begun ++ keeper_text (names_of names.now) keeper) }
+    ensures kept { text.new.whole ≡ text.old.whole }
 {
     match keeper {
         Keeper::Seat(seat) => add_name(text, names, seat),
-        Keeper::Orphan => text.write_all(b"orphan"),
+        Keeper::Orphan => text.word(b"orphan"),
         Keeper::Hand(seat) => add_word_and_name(text, b"hand:", names, seat),
     }
 }
@@ -85,98 +91,105 @@ fn add_keeper(text: &mut Vec<u8>, names: &[ThreadName], keeper: Keeper) -> io::R
 /// Adds a move's number, its thread and its row.
 #[tactic(auto, unfolding(crate::specs::Moves::step_text))]
 fn add_step(
-    text: &mut Vec<u8>,
+    text: &mut Text,
     names: &[ThreadName],
     number: u64,
     seat: u8,
     row: Row,
-) -> io::Result<()>
+) -> Result<(), NoMemory>
     requires { HasName (length names.now) seat }
-    ensures { OnOk result (text.new.items ≡ text.old.items ++ step_text (names_of names.now) number seat row) }
+    ensures added { OnOk result (text.new.begun ≡ text.old.begun ++ step_text (names_of names.now) number seat row) }
+    ensures kept { text.new.whole ≡ text.old.whole }
 {
-    write!(text, "{number} ")?;
+    text.number(number)?;
+    text.word(b" ")?;
     add_name(text, names, seat)?;
-    text.write_all(b" ")?;
-    text.write_all(row.name())
+    text.word(b" ")?;
+    text.word(row.name())
 }
 
 /// Adds the place of bytes in a row, and how many they are.
 #[tactic(auto, unfolding(crate::specs::Moves::range_text))]
-fn add_range(text: &mut Vec<u8>, range: Range) -> io::Result<()>
-    ensures { OnOk result (text.new.items ≡ text.old.items ++ range_text range) }
+fn add_range(text: &mut Text, range: Range) -> Result<(), NoMemory>
+    ensures added { OnOk result (text.new.begun ≡ text.old.begun ++ range_text range) }
+    ensures kept { text.new.whole ≡ text.old.whole }
 {
     add_place(text, range.place)?;
-    write!(text, " {}", range.bytes)
+    text.worded(b" ", range.bytes)
 }
 
 /// Adds from which holder to which bytes go.
 #[tactic(auto, unfolding(crate::specs::Moves::sides_text))]
-fn add_sides(text: &mut Vec<u8>, names: &[ThreadName], part: Part) -> io::Result<()>
+fn add_sides(text: &mut Text, names: &[ThreadName], part: Part) -> Result<(), NoMemory>
     requires from { IsSideNamed (length names.now) part.from }
     requires to { IsSideNamed (length names.now) part.to }
-    ensures { OnOk result (text.new.items ≡ text.old.items ++ sides_text (names_of names.now) part) }
+    ensures added { OnOk result (text.new.begun ≡ text.old.begun ++ sides_text (names_of names.now) part) }
+    ensures kept { text.new.whole ≡ text.old.whole }
 {
     add_side(text, names, part.from)?;
-    text.write_all(b" ")?;
+    text.word(b" ")?;
     add_side(text, names, part.to)
 }
 
 /// Adds from which keeper to which a slab goes.
 #[tactic(auto, unfolding(crate::specs::Moves::keepers_text))]
-fn add_keepers(text: &mut Vec<u8>, names: &[ThreadName], change: KeeperChange) -> io::Result<()>
+fn add_keepers(text: &mut Text, names: &[ThreadName], change: KeeperChange) -> Result<(), NoMemory>
     requires from { IsKeeperNamed (length names.now) change.from }
     requires to { IsKeeperNamed (length names.now) change.to }
-    ensures { OnOk result (text.new.items ≡ text.old.items ++ keepers_text (names_of names.now) change) }
+    ensures added { OnOk result (text.new.begun ≡ text.old.begun ++ keepers_text (names_of names.now) change) }
+    ensures kept { text.new.whole ≡ text.old.whole }
 {
     add_keeper(text, names, change.from)?;
-    text.write_all(b" ")?;
+    text.word(b" ")?;
     add_keeper(text, names, change.to)
 }
 
 /// Adds the line of a part of a move.
 #[tactic(auto, unfolding(crate::specs::Moves::move_text))]
 pub(crate) fn add_move(
-    text: &mut Vec<u8>,
+    text: &mut Text,
     names: &[ThreadName],
     number: u64,
     seat: u8,
     row: Row,
     part: Part,
-) -> io::Result<()>
+) -> Result<(), NoMemory>
     requires seat { HasName (length names.now) seat }
     requires from { IsSideNamed (length names.now) part.from }
     requires to { IsSideNamed (length names.now) part.to }
-    ensures { OnOk result (text.new.items ≡ text.old.items ++ move_text (names_of names.now) number seat row part) }
+    ensures added { OnOk result (text.new.begun ≡ text.old.begun ++ move_text (names_of names.now) number seat row part) }
+    ensures kept { text.new.whole ≡ text.old.whole }
 {
-    text.write_all(b"move ")?;
+    text.word(b"move ")?;
     add_step(text, names, number, seat, row)?;
-    text.write_all(b" ")?;
+    text.word(b" ")?;
     add_range(text, part.range)?;
-    text.write_all(b" ")?;
+    text.word(b" ")?;
     add_sides(text, names, part)?;
-    text.write_all(b"\n")
+    text.word(b"\n")
 }
 
 /// Adds the line of a slab that goes to another keeper.
 #[tactic(auto, unfolding(crate::specs::Moves::keeper_move_text))]
 pub(crate) fn add_keeper_move(
-    text: &mut Vec<u8>,
+    text: &mut Text,
     names: &[ThreadName],
     number: u64,
     seat: u8,
     row: Row,
     change: KeeperChange,
-) -> io::Result<()>
+) -> Result<(), NoMemory>
     requires seat { HasName (length names.now) seat }
     requires from { IsKeeperNamed (length names.now) change.from }
     requires to { IsKeeperNamed (length names.now) change.to }
-    ensures { OnOk result (text.new.items ≡ text.old.items ++ keeper_move_text (names_of names.now) number seat row change) }
+    ensures added { OnOk result (text.new.begun ≡ text.old.begun ++ keeper_move_text (names_of names.now) number seat row change) }
+    ensures kept { text.new.whole ≡ text.old.whole }
 {
-    text.write_all(b"keeper ")?;
+    text.word(b"keeper ")?;
     add_step(text, names, number, seat, row)?;
-    text.write_all(b" ")?;
+    text.word(b" ")?;
     add_place(text, change.slab)?;
-    text.write_all(b" ")?;
+    text.word(b" ")?;
     add_keepers(text, names, change)?;
-    text.write_all(b"\n")
+    text.word(b"\n")
 }

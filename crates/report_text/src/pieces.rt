@@ -1,11 +1,12 @@
 //! The pieces that many lines of a report have in common.
 ghost use Rattle.std.specs.Prelude.{◌≡◌, ◌++◌, OnOk, length};
-ghost use Rattle.pool_types.specs.Texts.{names_of};
+ghost use Rattle.pool_types.specs.Texts.{names_of, place_text};
 ghost use Rattle.report_text.specs.Pieces.{name_of, grant_text, object_text};
 ghost use Rattle.report_text.specs.Named.{HasName};
 
-use pool_types::{Grant, Place, ThreadName, add_place};
-use std::io::{self, Write};
+use crate::report::NoMemory;
+use crate::text::Text;
+use pool_types::{Grant, Place, ThreadName};
 
 /// The name of the seat's thread.
 fn name_of(names: &[ThreadName], seat: u8) -> &[u8]
@@ -16,35 +17,49 @@ fn name_of(names: &[ThreadName], seat: u8) -> &[u8]
 }
 
 /// Adds the name of the seat's thread.
-pub(crate) fn add_name(text: &mut Vec<u8>, names: &[ThreadName], seat: u8) -> io::Result<()>
+pub(crate) fn add_name(text: &mut Text, names: &[ThreadName], seat: u8) -> Result<(), NoMemory>
     requires { HasName (length names.now) seat }
-    ensures { OnOk result (text.new.items ≡ text.old.items ++ name_of (names_of names.now) seat) }
+    ensures added { OnOk result (text.new.begun ≡ text.old.begun ++ name_of (names_of names.now) seat) }
+    ensures kept { text.new.whole ≡ text.old.whole }
 {
-    text.write_all(name_of(names, seat))
+    text.word(name_of(names, seat))
 }
 
 /// Adds a grant, as `A#1`.
-pub(crate) fn add_grant(text: &mut Vec<u8>, names: &[ThreadName], grant: Grant) -> io::Result<()>
+pub(crate) fn add_grant(text: &mut Text, names: &[ThreadName], grant: Grant) -> Result<(), NoMemory>
     requires { HasName (length names.now) grant.seat }
-    ensures { OnOk result (text.new.items ≡ text.old.items ++ grant_text (names_of names.now) grant) }
+    ensures added { OnOk result (text.new.begun ≡ text.old.begun ++ grant_text (names_of names.now) grant) }
+    ensures kept { text.new.whole ≡ text.old.whole }
 {
     add_name(text, names, grant.seat)?;
-    write!(text, "#{}", grant.number)
+    text.worded(b"#", grant.number)
+}
+
+/// Adds a place, as `P0.R0+128`.
+pub(crate) fn add_place(text: &mut Text, place: Place) -> Result<(), NoMemory>
+    ensures added { OnOk result (text.new.begun ≡ text.old.begun ++ place_text place) }
+    ensures kept { text.new.whole ≡ text.old.whole }
+{
+    text.worded(b"P", u64::from(place.pool))?;
+    text.worded(b".R", u64::from(place.region))?;
+    text.worded(b"+", place.offset)
 }
 
 /// Adds an object: its place, its usable bytes, and its grant.
 #[tactic(auto, unfolding(crate::specs::Pieces::object_text))]
 pub(crate) fn add_object(
-    text: &mut Vec<u8>,
+    text: &mut Text,
     names: &[ThreadName],
     place: Place,
     usable: u64,
     grant: Grant,
-) -> io::Result<()>
+) -> Result<(), NoMemory>
     requires { HasName (length names.now) grant.seat }
-    ensures { OnOk result (text.new.items ≡ text.old.items ++ object_text (names_of names.now) place usable grant) }
+    ensures added { OnOk result (text.new.begun ≡ text.old.begun ++ object_text (names_of names.now) place usable grant) }
+    ensures kept { text.new.whole ≡ text.old.whole }
 {
     add_place(text, place)?;
-    write!(text, " {usable} ")?;
+    text.worded(b" ", usable)?;
+    text.word(b" ")?;
     add_grant(text, names, grant)
 }

@@ -11,6 +11,7 @@ ghost use Rattle.report_text.specs.Reports.{ReportView, ended_text, HasEntries};
 
 use crate::entry::ReportEntry;
 use crate::lines::add_entry;
+use crate::text::Text;
 use pool_types::{Failed, Sink, ThreadName, Threads, write_all};
 use std::alloc::{AllocError, Global};
 use std::marker::Model;
@@ -23,16 +24,19 @@ pub struct NoMemory;
 #[derive(Drop)]
 pub struct Report {
     names: Vec<ThreadName>,
-    text: Vec<u8>,
+    text: Text,
 }
 
 impl Model for Report {
+    ghost use Rattle.std.specs.Prelude.{◌≡◌, []};
     ghost use Rattle.pool_types.specs.Texts.{names_of};
     ghost use Rattle.report_text.specs.Reports.{ReportView};
 
     ghost Value = { ReportView };
 
-    ghost view = { λ s. record { names = names_of s.names.items; text = s.text.items } };
+    ghost view = { λ s. record { names = names_of s.names.items; text = s.text.whole } };
+
+    ghost invariant = { λ s. s.text.begun ≡ [] };
 }
 
 /// The same names again.
@@ -44,18 +48,6 @@ fn duplicate_all(alloc: Global, names: &[ThreadName]) -> Result<Vec<ThreadName>,
         kept.push(name.duplicate())?;
     }
     Ok(kept)
-}
-
-/// The text of an entry.
-fn text_of(alloc: Global, names: &[ThreadName], entry: ReportEntry) -> Result<Vec<u8>, NoMemory>
-    requires { IsNamed (length names.now) entry }
-    ensures { IfOk result (λ text. text.items ≡ entry_text (names_of names.now) entry) }
-{
-    let mut text = Vec::new(alloc);
-    match add_entry(&mut text, names, entry) {
-        Ok(()) => Ok(text),
-        Err(_) => Err(NoMemory),
-    }
 }
 
 impl Report {
@@ -74,7 +66,7 @@ impl Report {
         match duplicate_all(alloc, trace.threads()) {
             Ok(names) => Ok(Report {
                 names,
-                text: Vec::new(alloc),
+                text: Text::new(alloc),
             }),
             Err(AllocError) => Err(NoMemory),
         }
@@ -87,18 +79,23 @@ impl Report {
         self.names.len()
     }
 
-    /// Puts an entry at the end. The entry's text is made whole first, so that the report is as before where memory runs
-    /// out. Each seat in the entry is one of the trace's threads.
-    pub fn add(&mut self, alloc: Global, entry: ReportEntry) -> Result<(), NoMemory>
+    /// Puts an entry at the end. Its text is written in place, and cut back where memory runs out, so that the report is
+    /// then as before. Each seat in the entry is one of the trace's threads.
+    pub fn add(&mut self, entry: ReportEntry) -> Result<(), NoMemory>
         requires { IsNamed (length self.old.names) entry }
         ensures added { OnOk result (self.new ≡ record { names = self.old.names; text = self.old.text ++ entry_text self.old.names entry }) }
         ensures entries { OnOk result ((entries : List ReportEntry) → HasEntries self.old entries → HasEntries self.new (entries ++ entry ∷ [])) }
         ensures kept { OnErr result (self.new ≡ self.old) }
     {
-        let text = text_of(alloc, self.names.as_slice(), entry)?;
-        match self.text.extend_from_slice(text.as_slice()) {
-            Ok(()) => Ok(()),
-            Err(AllocError) => Err(NoMemory),
+        match add_entry(&mut self.text, self.names.as_slice(), entry) {
+            Ok(()) => {
+                self.text.close();
+                Ok(())
+            }
+            Err(NoMemory) => {
+                self.text.cut_back();
+                Err(NoMemory)
+            }
         }
     }
 }
@@ -112,6 +109,6 @@ pub fn write_report<K: Sink>(sink: &mut K, report: &Report) -> Result<(), Failed
     ensures fault { OnErr result (Rose (K.faults sink.old) (K.faults sink.new)) }
     ensures kept { OnOk result (K.faults sink.new ≡ K.faults sink.old) }
 {
-    write_all(sink, report.text.as_slice())?;
+    write_all(sink, report.text.whole())?;
     write_all(sink, b"end\n")
 }

@@ -67,7 +67,7 @@ fn report_of(alloc: Global, entries: &[ReportEntry]) -> Result<Report, Fail> {
         if !entry.is_named(report.seats()) {
             return Err(Fail::from("a seat without a name"));
         }
-        if report.add(alloc, *entry).is_err() {
+        if report.add(*entry).is_err() {
             return Err(Fail::from("no memory"));
         }
     }

@@ -5,4 +5,4 @@ use Rattle.report_text.proofs.report.Report.add.Goals as goal
 
 pub returns-in-Ok-clause-entries : goal.returns-in-Ok-clause-entries
 returns-in-Ok-clause-entries c =
-    entries_text-added c.args.self.now (names_of c.self.inside.names.items) c.extend_from_slice.new.self.items c.args.entry (search rules) (search rules)
+    entries_text-added c.args.self.now (names_of c.self.inside.names.items) c.close.new.self.whole c.args.entry (search rules) (search rules)

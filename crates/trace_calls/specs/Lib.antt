@@ -1,0 +1,4 @@
+pub mod Names
+pub mod Pools
+pub mod Entries
+pub mod Kept
