@@ -1,87 +1,90 @@
 -- The first malloc is a run.
-use Rattle.std.proofs.Common.{Contains, zero, suc, ◌≡◌, ◌≢◌, ◌+◌, ◌<◌, ◌≤◌, inl, inr, [], ◌∷◌, Some, None, Bool, true, false, refl, sym, ◌∙◌, ap, arith, lit<, lit≤}
+use Rattle.std.proofs.Common.{ℕ, subst, Contains, zero, suc, ◌≡◌, ◌≢◌, ◌+◌, ◌<◌, ◌≤◌, inl, inr, [], ◌∷◌, Some, None, Bool, true, false, refl, sym, ◌∙◌, ap, arith, lit<, lit≤}
 use Rattle.std.specs.Prelude.{if◌then◌else◌}
 use Rattle.std.proofs.lemmas.Bool.{cases_Bool, cases_lt}
 use Rattle.pool_types.specs.declared.values.Place.{Place}
-use Rattle.pool_types.specs.declared.values.Answer.TheVariants.{Got}
 use Rattle.pool_types.specs.Policies.{IsAllowed}
-use Rattle.part_model.specs.declared.holders.Holder.TheVariants.{Head, Rest, Object, Bin, Hand}
+use Rattle.part_model.specs.declared.holders.Holder.TheVariants.{Head, Rest, Object, Bin, Queue, Hand}
 use Rattle.part_model.specs.declared.moves.Range.{Range}
 use Rattle.part_model.specs.Holding.{lies_in}
 use Rattle.part_model.proofs.CallerLemmas.{lies_in-parts, lies_in-is, apart_before}
 use Rattle.size_classes.specs.Classes.{class_size, class_objects}
 use Rattle.size_classes.specs.Served.{served_plain}
+use Rattle.size_classes.specs.declared.Served.TheVariants.{Small}
 use Rattle.pool_types.specs.declared.rows.Keeper.TheVariants.{Seat, Hand as InHand}
-use Rattle.machine.specs.States.{Slab, nothing_yet}
-use Rattle.machine.specs.Ranges.{part_of, parts_of, region_range, head_range, objects_range, object_range, behind_object}
-use Rattle.machine.specs.Regions.{IsNewRegion, coming_parts, granules_range}
-use Rattle.machine.specs.Journal.{Enters, Nothing_seen}
+use Rattle.machine.specs.States.{Slab, nothing_yet, fixed_pool}
+use Rattle.machine.specs.Ranges.{part_of, head_range, objects_range, object_range, behind_object}
+use Rattle.machine.specs.Regions.{IsNewRegion, granules_range}
 use Rattle.machine.specs.Lawful.{region_comes, blocks_put, slab_begins, rest_granted}
-use Rattle.machine.specs.Runs.{Progress, after_event, MayStep, IsRun, Makes}
-use Rattle.machine.specs.Examples.{fixed_pool, step_of, mebibyte, first_place, first_slab, first_malloc}
+use Rattle.machine.specs.Events.{Progress, after_event}
+use Rattle.machine.specs.Turns.{Adjoins}
+use Rattle.machine.specs.Runs.{MayHappen, IsRun}
+use Rattle.machine.specs.Examples.{comes, moves, goes_from, slab_begins_at, first_got, grant, mebibyte, first_place, first_slab, behind_slab, first_malloc}
 use Rattle.machine.proofs.Moving.{one_apart, one_whole, one_moves, two_apart, two_whole, two_move, lies_within, none_inside}
 use Rattle.machine.proofs.Mallocs.{small_no_block}
-use Rattle.machine.proofs.Examples.{begun, eight_is_small}
-use Rattle.list_laws.proofs.Members.{Contains-none}
+use Rattle.machine.proofs.FirstRegion.{first_number}
+use Rattle.machine.proofs.Examples.{looked, look_happens, is_obtaining, eight_is_small}
+use Rattle.list_laws.proofs.Members.{Contains-none, Contains-single}
 
--- the ranges of the run
+-- all bytes of the region
 abbrev pub all_range : Range
 all_range = granules_range 0 mebibyte
 
 abbrev pub bin_range : Range
-bin_range = region_range 0 mebibyte 16384 1032192
+bin_range = behind_slab
 
--- the progress after each step
+-- the progress after each turn
 abbrev pub after_region : Progress
-after_region = after_event begun (Makes (step_of (coming_parts 0 0 mebibyte) [] (Some mebibyte) Nothing_seen None))
+after_region = after_event looked (comes 1048576 mebibyte)
 
 abbrev pub after_put : Progress
-after_put = after_event after_region (Makes (step_of (parts_of (bin_range ∷ []) (Some (Hand 0)) (Some Bin)) [] None Nothing_seen None))
+after_put = after_event after_region (moves (goes_from bin_range (Hand 0) Bin) [])
 
 abbrev pub after_slab : Progress
-after_slab = after_event after_put (Makes (step_of
-    (part_of (head_range first_place 0) (Some (Hand 0)) (Some Head) ∷ part_of (objects_range first_place 0) (Some (Hand 0)) (Some Rest) ∷ [])
-    (Enters first_slab ∷ []) None Nothing_seen None))
+after_slab = after_event after_put (slab_begins_at first_place 0)
 
 -- the region can come
-pub mebibyte_is_new : IsNewRegion (fixed_pool 1048576) nothing_yet mebibyte
+pub mebibyte_is_new : IsNewRegion (fixed_pool 1 1048576) nothing_yet mebibyte
 mebibyte_is_new = record {
-  number = record {
-    unused = lit≤ tt;
-    free = λ region live. absurd (Contains-none region live);
-    least = λ other least below free. omega arith;
-  };
-  below = lit< tt;
   only = λ fixed. refl;
-  front = lit< tt;
-  aligned = refl;
-  inside = lit≤ tt;
-  ends = lit≤ tt;
-  most = inl refl;
-  right = λ some. refl;
-  within = lit< tt;
+  number = first_number nothing_yet refl refl;
+  placed = record {
+    aligned = record { least = lit< tt; multiple = refl };
+    placed = inl (record {
+      all = refl;
+      fits = record { even_or_odd = refl; gap = record { within = lit≤ tt; free = λ index from below. refl } };
+      lowest = λ start fits. omega arith;
+    });
+  };
   apart = λ other live. absurd (Contains-none other live);
   some = lit< tt;
-  lowest = λ room. omega arith;
-  longest = λ fewer indices longest. absurd (let none : 128 < 128 = fewer in omega arith);
+  inside = lit≤ tt;
+  ends = lit≤ tt;
 }
 
-pub region_step : MayStep (fixed_pool 1048576) begun (step_of (coming_parts 0 0 mebibyte) [] (Some mebibyte) Nothing_seen None)
-region_step = record {
+pub region_comes_in : MayHappen (fixed_pool 1 1048576) looked (comes 1048576 mebibyte)
+region_comes_in = record {
   whole = one_whole (part_of all_range None (Some (Hand 0))) (record { some = lit< tt; ends = lit≤ tt });
   apart = one_apart (part_of all_range None (Some (Hand 0)));
   there = one_moves 0 nothing_yet.held all_range None (Some (Hand 0)) refl (λ byte inside. refl);
   lawful = region_comes mebibyte mebibyte_is_new;
-  fits = (tt, tt, tt);
-  moves = record { grants = tt; ends = (tt, tt); keeps = refl };
+  fits = record {
+    sight = ((is_obtaining 1048576 130 refl refl (lit≤ tt), lit≤ tt), refl);
+    moves = record { grants = tt; ends = (tt, tt); keeps = refl };
+    large = tt;
+    slabs = tt;
+    comes = refl;
+    leaves = tt;
+    answered = tt;
+  };
 }
 
 -- a byte of the region is in hand
 pub all_in_hand : (byte : Place) → lies_in byte all_range ≡ true → after_region.state.held byte ≡ Some (Hand 0)
 all_in_hand byte inside = ap (λ (b : Bool). if b then Some (Hand 0) else None) inside
 
-pub put_step : MayStep (fixed_pool 1048576) after_region (step_of (parts_of (bin_range ∷ []) (Some (Hand 0)) (Some Bin)) [] None Nothing_seen None)
-put_step = record {
+pub rest_put : MayHappen (fixed_pool 1 1048576) after_region (moves (goes_from bin_range (Hand 0) Bin) [])
+rest_put = record {
   whole = one_whole (part_of bin_range (Some (Hand 0)) (Some Bin)) (record { some = lit< tt; ends = lit≤ tt });
   apart = one_apart (part_of bin_range (Some (Hand 0)) (Some Bin));
   there = one_moves 0 after_region.state.held bin_range (Some (Hand 0)) (Some Bin) refl
@@ -96,8 +99,15 @@ put_step = record {
     ),
     tt,
   );
-  fits = (tt, tt, tt);
-  moves = record { grants = tt; ends = (tt, tt); keeps = refl };
+  fits = record {
+    sight = tt;
+    moves = record { grants = tt; ends = (tt, tt); keeps = refl };
+    large = tt;
+    slabs = tt;
+    comes = tt;
+    leaves = tt;
+    answered = tt;
+  };
 }
 
 -- what lies before the block in the bin is in hand still
@@ -107,11 +117,9 @@ slab_in_hand range byte pool region ends inside =
     ap (λ (b : Bool). if b then Some Bin else (if lies_in byte all_range then Some (Hand 0) else None)) (apart_before range bin_range ends byte inside)
     ∙ all_in_hand byte (lies_within range all_range byte pool region (omega arith) (omega arith) inside)
 
-pub slab_step : MayStep (fixed_pool 1048576) after_put (step_of
-    (part_of (head_range first_place 0) (Some (Hand 0)) (Some Head) ∷ part_of (objects_range first_place 0) (Some (Hand 0)) (Some Rest) ∷ [])
-    (Enters first_slab ∷ []) None Nothing_seen None)
+pub slab_starts : MayHappen (fixed_pool 1 1048576) after_put (slab_begins_at first_place 0)
 unfolding class_size class_objects
-slab_step = record {
+slab_starts = record {
   whole = two_whole (part_of (head_range first_place 0) (Some (Hand 0)) (Some Head)) (part_of (objects_range first_place 0) (Some (Hand 0)) (Some Rest))
       (record { some = lit< tt; ends = lit≤ tt }) (record { some = lit< tt; ends = lit≤ tt });
   apart = two_apart (part_of (head_range first_place 0) (Some (Hand 0)) (Some Head)) (part_of (objects_range first_place 0) (Some (Hand 0)) (Some Rest)) (lit≤ tt);
@@ -125,8 +133,25 @@ slab_step = record {
     };
     even = refl;
   });
-  fits = (tt, tt, tt);
-  moves = record { grants = tt; ends = (tt, (tt, tt)); keeps = refl };
+  fits = record {
+    sight = tt;
+    moves = record { grants = tt; ends = (tt, (tt, tt)); keeps = refl };
+    large = tt;
+    slabs = (
+      record {
+        served = eight_is_small;
+        none_yet = refl;
+        rest = λ byte own. absurd (Contains-none own.0 own.1.0.0);
+        private = λ byte own. absurd (Contains-none own.0 own.1.0.0);
+        orphans = inl (λ slab kept. absurd (Contains-none slab kept.0.0));
+        waits = λ alone. record { public = λ byte own. absurd (Contains-none own.0 own.1.0.0); orphan = λ slab kept. absurd (Contains-none slab kept.0.0) };
+      },
+      tt,
+    );
+    comes = tt;
+    leaves = tt;
+    answered = tt;
+  };
 }
 
 -- a byte of the object is rest before it is granted
@@ -167,42 +192,78 @@ pub kept_by_seat : (slab : Slab) → Contains (first_slab ∷ []) slab → slab.
 kept_by_seat slab (zero, below, is) kept = (let e : Seat 0 ≡ InHand 0 = ap (λ (s : Slab). s.keeper) is ∙ kept in cc)
 kept_by_seat slab (suc k, below, is) kept = absurd (omega (arith, below))
 
-pub grant_step : MayStep (fixed_pool 1048576) after_slab
-    (step_of (part_of (object_range first_slab 0) (Some Rest) (Some (Object (record { seat = 0; number = 1 }))) ∷ []) [] None Nothing_seen
-    (Some (Got (record { pool = 0; region = 0; offset = 16376 }) 8 (record { seat = 0; number = 1 }))))
+-- no byte is in the queue after the grant
+pub none_queued : (byte : Place) → (after_event after_slab first_got).state.held byte ≢ Some Queue
+none_queued byte =
+    by_tests (lies_in byte (object_range first_slab 0)) (lies_in byte (objects_range first_place 0)) (lies_in byte (head_range first_place 0)) (lies_in byte bin_range) (lies_in byte all_range)
+  where
+    by_tests : (g o h b a : Bool) →
+        (if g then Some (Object (grant 1)) else (if o then Some Rest else (if h then Some Head else (if b then Some Bin else (if a then Some (Hand 0) else None))))) ≢ Some Queue
+    by_tests true o h b a is = cc
+    by_tests false true h b a is = cc
+    by_tests false false true b a is = cc
+    by_tests false false false true a is = cc
+    by_tests false false false false true is = cc
+    by_tests false false false false false is = cc
+
+-- the one block adjoins itself nowhere
+pub one_block : (one other : Range) → Contains (bin_range ∷ []) one → Contains (bin_range ∷ []) other → Adjoins one other → ⊥
+one_block one other first second adjoins =
+    alone (subst (λ r. Adjoins r bin_range) (sym (Contains-single bin_range one first)) (subst (λ r. Adjoins one r) (sym (Contains-single bin_range other second)) adjoins))
+  where
+    alone : Adjoins bin_range bin_range → ⊥
+    alone (region, inl ends) = omega (arith, ends)
+    alone (region, inr ends) = omega (arith, ends)
+
+-- an object of the first class has 8 bytes
+pub eight_bytes : (class : ℕ) → Small 0 ≡ Small class → 8 ≡ class_size class
+unfolding class_size
+eight_bytes class same = (let e : 0 ≡ class = cc in subst (λ n. 8 ≡ class_size n) e refl)
+
+pub object_granted : MayHappen (fixed_pool 1 1048576) after_slab first_got
 unfolding class_size class_objects
-grant_step = record {
-  whole = one_whole (part_of (object_range first_slab 0) (Some Rest) (Some (Object (record { seat = 0; number = 1 })))) (record { some = lit< tt; ends = lit≤ tt });
-  apart = one_apart (part_of (object_range first_slab 0) (Some Rest) (Some (Object (record { seat = 0; number = 1 }))));
-  there = one_moves 0 after_slab.state.held (object_range first_slab 0) (Some Rest) (Some (Object (record { seat = 0; number = 1 }))) refl object_in_rest;
+object_granted = record {
+  whole = one_whole (part_of (object_range first_slab 0) (Some Rest) (Some (Object (grant 1)))) (record { some = lit< tt; ends = lit≤ tt });
+  apart = one_apart (part_of (object_range first_slab 0) (Some Rest) (Some (Object (grant 1))));
+  there = one_moves 0 after_slab.state.held (object_range first_slab 0) (Some Rest) (Some (Object (grant 1))) refl object_in_rest;
   lawful = rest_granted first_slab 0 ((0, lit< tt, refl), refl) (lit< tt) (λ byte inside. absurd (none_inside (behind_object first_slab 0) byte refl inside));
-  fits = (
-    tt,
-    tt,
-    record {
-      answers = (
-        record {
-          accepted = record { sound = refl; numbers = λ e. absurd (omega arith); fits = λ granules alignment large. absurd (small_no_block (served_plain 8) 0 granules alignment eight_is_small large) };
-          granted = record { from = Some Rest; one = refl; of_seat = refl };
-          suits = inr (inl (record { region = mebibyte; live = (0, lit< tt, refl); there = (refl, refl); enough = lit≤ tt; inside = lit≤ tt; aligned = refl }));
-        },
-        refl,
-      );
-      no_hand = λ byte. elim (cases_Bool (lies_in byte (object_range first_slab 0))) [
-        | inl inside ↦ (let is = ap (λ (b : Bool). if b then Some (Object (record { seat = 0; number = 1 })) else after_slab.state.held byte) inside in λ hand. (let e : Some (Object (record { seat = 0; number = 1 })) ≡ Some (Hand 0) = sym is ∙ hand in cc))
-        | inr outside ↦ (let is = ap (λ (b : Bool). if b then Some (Object (record { seat = 0; number = 1 })) else after_slab.state.held byte) outside in λ hand. none_in_hand byte (sym is ∙ hand))
-      ];
-      no_slab = λ slab kept. kept_by_seat slab kept.0 kept.1;
-    },
-  );
-  moves = record { grants = tt; ends = (tt, tt); keeps = refl };
+  fits = record {
+    sight = tt;
+    moves = record { grants = tt; ends = (tt, tt); keeps = refl };
+    large = tt;
+    slabs = tt;
+    comes = tt;
+    leaves = tt;
+    answered = record {
+      legal = record {
+        answers = (
+          record {
+            accepted = record { sound = refl; numbers = λ e. absurd (omega arith); fits = λ granules alignment large. absurd (small_no_block (served_plain 8) 0 granules alignment eight_is_small large) };
+            granted = record { from = Some Rest; one = refl; of_seat = refl };
+            of_class = λ class served. eight_bytes class (sym eight_is_small ∙ served);
+            suits = inr (inr (inl (record { region = mebibyte; live = (0, lit< tt, refl); there = (refl, refl); enough = lit≤ tt; inside = lit≤ tt; aligned = refl })));
+          },
+          refl,
+        );
+        no_hand = λ byte. elim (cases_Bool (lies_in byte (object_range first_slab 0))) [
+          | inl inside ↦ (let is = ap (λ (b : Bool). if b then Some (Object (grant 1)) else after_slab.state.held byte) inside in λ hand. (let e : Some (Object (grant 1)) ≡ Some (Hand 0) = sym is ∙ hand in cc))
+          | inr outside ↦ (let is = ap (λ (b : Bool). if b then Some (Object (grant 1)) else after_slab.state.held byte) outside in λ hand. none_in_hand byte (sym is ∙ hand))
+        ];
+        no_slab = λ slab kept. kept_by_seat slab kept.0 kept.1;
+      };
+      due = refl;
+      cleaned = record { drawn = lit≤ tt; asked = (tt, (tt, (tt, (tt, (tt, tt))))) };
+      calm = λ once. record { queue = none_queued; joined = one_block; given = λ fixed. cc };
+    };
+  };
 }
 
 -- the pool can be made
-pub pool_allowed : IsAllowed (fixed_pool 1048576).policy (fixed_pool 1048576).limits
+pub pool_allowed : IsAllowed (fixed_pool 1 1048576).policy (fixed_pool 1 1048576).limits
 pool_allowed = record { valid = refl; supported = refl; limits_in = ((refl, refl, refl), refl) }
 
 -- the first malloc is a run
-pub first_malloc_runs : IsRun (fixed_pool 1048576) first_malloc
+pub first_malloc_runs : IsRun (fixed_pool 1 1048576) first_malloc
 unfolding class_size class_objects
-first_malloc_runs = (pool_allowed, (record { seated = lit< tt; free = refl; serving = refl }, (region_step, (put_step, (slab_step, (grant_step, tt))))))
+first_malloc_runs =
+    (pool_allowed, (record { seated = lit< tt; free = refl; serving = refl }, (look_happens 1048576, (region_comes_in, (rest_put, (slab_starts, (object_granted, tt)))))))

@@ -5,7 +5,15 @@ pub mod Runs
 pub mod RegionBytes
 pub mod Moving
 pub mod Mallocs
+pub mod FirstRegion
 pub mod Examples
 pub mod FirstMalloc
 pub mod Scans
+pub mod ObjectMoves
+pub mod Ledger
+pub mod LedgerRuns
+pub mod AnswerGrants
+pub mod GotRuns
+pub mod Refused
+pub mod Scripts
 pub mod CallerLemmas

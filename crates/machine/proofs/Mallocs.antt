@@ -1,7 +1,6 @@
 -- What a malloc of a size that has a class asks for, and what its steps may move.
-use Rattle.std.proofs.Common.{◌≡◌, ◌≢◌, ◌⊎◌, ℕ, ◌-◌, ◌%◌, ◌^◌, ◌<◌, ◌≤◌, inl, inr, List, [], Bool, true, false, ◌||◌, not, nat_le, Some, refl, sym, ◌∙◌, ap, arith, subst}
+use Rattle.std.proofs.Common.{◌≡◌, ◌≢◌, ℕ, ◌-◌, ◌%◌, ◌^◌, ◌<◌, ◌≤◌, inl, inr, [], Bool, true, false, ◌||◌, not, nat_le, Some, refl, sym, ◌∙◌, ap}
 use Rattle.std.specs.Prelude.{if◌then◌else◌, ◌==◌}
-use Rattle.std.specs.List.{list_any}
 use Rattle.std.specs.Bool.{OnTrue}
 use Rattle.std.proofs.lemmas.Bool.{cases_Bool, leb-true, leb-false}
 use Rattle.size_classes.specs.declared.Served.{Served}
@@ -9,17 +8,11 @@ use Rattle.size_classes.specs.declared.Served.TheVariants.{Small, Large}
 use Rattle.size_classes.specs.Classes.{class_of}
 use Rattle.size_classes.proofs.CallerLemmas.{served_plain-small}
 use Rattle.pool_types.specs.declared.values.Request.TheVariants.{Malloc}
-use Rattle.pool_types.specs.declared.policy.RegionRec.{RegionRec}
-use Rattle.part_model.specs.declared.moves.Part.{Part}
-use Rattle.machine.specs.States.{Terms, State}
-use Rattle.machine.specs.Ranges.{Each}
-use Rattle.machine.specs.Regions.{IsRightStart, HasRoom}
-use Rattle.machine.specs.Journal.{is_object}
-use Rattle.machine.specs.Answers.{Call, IsAccepted, granted, moved_parts, same_object, is_bad}
-use Rattle.machine.specs.Suits.{plain_alignment, least_usable, wants_object, place_to_free}
+use Rattle.machine.specs.States.{Terms}
+use Rattle.machine.specs.Answers.{Call, IsAccepted, granted, is_bad}
+use Rattle.machine.specs.Suits.{plain_alignment, least_usable, wants_object}
 use Rattle.machine.specs.Looks.{served_for}
-use Rattle.machine.specs.Runs.{NoneLeaves, MayEnd, IsMoveOf}
-use Rattle.machine.proofs.Shapes.{each-map}
+use Rattle.machine.specs.Turns.{NoneLeaves, IsMoveOf}
 
 -- a small object is no block
 pub small_no_block : (served : Served) (class granules alignment : ℕ) → served ≡ Small class → served ≡ Large granules alignment → ⊥
@@ -54,24 +47,6 @@ enough_usable size usable eight enough = by_test (size == 0)
     by_test true = eight
     by_test false = enough
 
--- a step of a call that wants an object may move what is in no object and stays in the pool
-pub stays_moves : (terms : Terms) (call : Call) (parts : List Part) → wants_object call.request ≡ true → Each (λ part. is_object part.from ≡ false) parts → NoneLeaves parts →
-    IsMoveOf terms call parts
-stays_moves terms call parts wants none stay = record {
-  grants = subst (λ b. OnTrue (not b) (granted parts ≡ [])) (sym wants) tt;
-  ends = each-map (λ part. is_object part.from ≡ false) (MayEnd call) (λ part no. no_end part (is_object part.from) no) parts none;
-  keeps = by_test (terms.policy.fixed || terms.policy.keep);
-}
-  where
-    no_end : (part : Part) (b : Bool) → b ≡ false →
-        OnTrue b ((place_to_free call.request ≡ Some part.range.place) ⊎ (list_any (λ earlier. same_object earlier.to part.from) (moved_parts call.moments) ≡ true))
-    no_end part false is = tt
-    no_end part true is = absurd (let e = is in cc)
-
-    by_test : (b : Bool) → OnTrue b (NoneLeaves parts)
-    by_test true = stay
-    by_test false = tt
-
 -- a step that moves nothing may be made in any call
 pub nothing_moved : (terms : Terms) (call : Call) → IsMoveOf terms call []
 nothing_moved terms call = record { grants = by_test (not (wants_object call.request)); ends = tt; keeps = leaves (terms.policy.fixed || terms.policy.keep) }
@@ -83,7 +58,3 @@ nothing_moved terms call = record { grants = by_test (not (wants_object call.req
     leaves : (b : Bool) → OnTrue b (NoneLeaves [])
     leaves true = refl
     leaves false = tt
-
--- of the starts of the right parity the first two indices have the lowest
-pub first_is_lowest : (terms : Terms) (state : State) (region : RegionRec) → region.first ≤ 1 → IsRightStart region region.first → (room : HasRoom terms state region) → region.first ≤ room.gap.from
-first_is_lowest terms state region near right room = let other = room.right in omega (arith, near, right, other)

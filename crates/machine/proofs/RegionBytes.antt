@@ -7,7 +7,7 @@ use Rattle.part_model.specs.Holding.{Holding, lies_in}
 use Rattle.part_model.specs.Totals.{has_holder, place_at, region_bytes}
 use Rattle.part_model.proofs.CallerLemmas.{lies_in-parts, lies_in-is, same_region-is, same_region-parts, totals_sum}
 use Rattle.machine.specs.States.{State}
-use Rattle.machine.specs.Runs.{no_progress, after_events}
+use Rattle.machine.specs.Events.{no_progress, after_events}
 use Rattle.machine.specs.Laws.{RunsSumToTheirRegions}
 use Rattle.machine.proofs.Covers.{whole}
 use Rattle.machine.proofs.Runs.{IsSound, IsSoundState, lies_in-number, sound_run, sound_nothing}
@@ -73,7 +73,7 @@ other_bytes_are pool held regions next sound other number none =
 -- the sum of the totals is the bytes of the regions
 pub runs_sum_to_their_regions : RunsSumToTheirRegions
 runs_sum_to_their_regions terms events run =
-    let sound : IsSoundState terms (after_events no_progress events).state = sound_run terms no_progress events run.1 (sound_nothing terms) in
+    let sound : IsSoundState terms (after_events no_progress events).state = sound_run terms no_progress events run.1 (sound_nothing terms.limits.pool 0) in
     let state : State = (after_events no_progress events).state in
     let both = totals_sum (after_events no_progress events).state.held in
     record {

@@ -12,11 +12,13 @@ use Rattle.part_model.specs.Holding.{Holding, lies_in, after_parts, AreApart, Ca
 use Rattle.part_model.specs.Totals.{has_holder}
 use Rattle.part_model.proofs.CallerLemmas.{holders_of-is, lies_in-parts, same_region-parts}
 use Rattle.list_laws.proofs.Members.{Contains-filter, Contains-filter_from}
-use Rattle.machine.specs.States.{Terms, State, nothing_yet}
+use Rattle.machine.specs.States.{Terms, State}
 use Rattle.machine.specs.Ranges.{Each}
 use Rattle.machine.specs.Regions.{coming_parts, leaving_parts, front_range, granules_range, back_range, IsNewRegion}
-use Rattle.machine.specs.Journal.{Entry, goes, regions_left, regions_after, next_after}
-use Rattle.machine.specs.Runs.{Event, Begins, Makes, Reset_begins, Reset_ends, End_begins, Progress, no_progress, after_event, after_events, MayStep, MayHappen, IsRunFrom}
+use Rattle.machine.specs.Journal.{Turn, goes, regions_left, regions_after, next_after}
+use Rattle.machine.specs.Events.{Event, Begins, Makes, Reset_begins, Reset_ends, Ends, Progress, no_progress, after_event, after_events}
+use Rattle.machine.specs.Turns.{MayStep}
+use Rattle.machine.specs.Runs.{MayHappen, IsRunFrom}
 use Rattle.machine.specs.Laws.{RunsHaveOneHolder}
 use Rattle.machine.proofs.Shapes.{Stays, each-three, each-map, region_move, RegionMove}
 use Rattle.machine.proofs.Covers.{stays_held, Brings, Takes, brings_held, takes_held, lies_in_any-three, whole}
@@ -80,7 +82,7 @@ sound_comes terms state seat region new sound =
         | inr inside ↦ (region, Contains-push state.regions region, inside)
       ];
       fits = λ one live. elim (Contains-push_cases state.regions region one live) [
-        | inl old ↦ let fit = sound.fits one old in let unused = new.number.unused in record { below = let below = fit.below in omega arith; inside = fit.inside; ends = fit.ends }
+        | inl old ↦ let fit = sound.fits one old in let unused = new.number.next_is.from in record { below = let below = fit.below in omega arith; inside = fit.inside; ends = fit.ends }
         | inr is ↦ subst (λ r. IsFit (region.number + 1) r) is (record { below = omega arith; inside = new.inside; ends = let ends = new.ends in omega arith })
       ];
       unique = λ one other live live_other same. elim (Contains-push_cases state.regions region one live) [
@@ -96,7 +98,7 @@ sound_comes terms state seat region new sound =
     })
   where
     not_new : (one : RegionRec) → Contains state.regions one → one.number ≡ region.number → ⊥
-    not_new one old same = let fit = sound.fits one old in let below = fit.below in let unused = new.number.unused in omega arith
+    not_new one old same = let fit = sound.fits one old in let below = fit.below in let unused = new.number.next_is.from in omega arith
 
 -- the parts are of the region of this number
 abbrev pub IsOfNumber : ℕ → Part → Type 0
@@ -189,55 +191,55 @@ sound_leaves pool seat held regions next region live sound =
     ]
 
 -- a step keeps it
-pub sound_step : (terms : Terms) (progress : Progress) (entry : Entry) → MayStep terms progress entry →
+pub sound_step : (terms : Terms) (progress : Progress) (turn : Turn) → MayStep terms progress turn →
     IsSound terms.limits.pool progress.state.held progress.state.regions progress.state.next →
-    IsSound terms.limits.pool (after_parts progress.state.held entry.parts) (regions_after progress.state.regions entry.parts entry.region) (next_after progress.state.next entry.region)
-sound_step terms progress entry may sound = by_kind (region_move terms progress.state entry.seat entry.parts entry.book entry.region may.lawful)
+    IsSound terms.limits.pool (after_parts progress.state.held turn.parts) (regions_after progress.state.regions turn.parts turn.region) (next_after progress.state.next turn.region)
+sound_step terms progress turn may sound = by_kind (region_move terms progress.state turn.seat turn.parts turn.book turn.region may.lawful)
   where
-    by_kind : RegionMove terms progress.state entry.seat entry.parts entry.region →
-        IsSound terms.limits.pool (after_parts progress.state.held entry.parts) (regions_after progress.state.regions entry.parts entry.region) (next_after progress.state.next entry.region)
+    by_kind : RegionMove terms progress.state turn.seat turn.parts turn.region →
+        IsSound terms.limits.pool (after_parts progress.state.held turn.parts) (regions_after progress.state.regions turn.parts turn.region) (next_after progress.state.next turn.region)
     by_kind (inl within) =
-        subst (λ r. IsSound terms.limits.pool (after_parts progress.state.held entry.parts) (regions_after progress.state.regions entry.parts r) (next_after progress.state.next r)) (sym within.none)
-        (sound_stays terms.limits.pool entry.seat progress.state.held progress.state.regions progress.state.next entry.parts within.each may.apart may.there sound)
+        subst (λ r. IsSound terms.limits.pool (after_parts progress.state.held turn.parts) (regions_after progress.state.regions turn.parts r) (next_after progress.state.next r)) (sym within.none)
+        (sound_stays terms.limits.pool turn.seat progress.state.held progress.state.regions progress.state.next turn.parts within.each may.apart may.there sound)
     by_kind (inr (inl comes)) =
-        subst (λ r. IsSound terms.limits.pool (after_parts progress.state.held entry.parts) (regions_after progress.state.regions entry.parts r) (next_after progress.state.next r)) (sym comes.is)
+        subst (λ r. IsSound terms.limits.pool (after_parts progress.state.held turn.parts) (regions_after progress.state.regions turn.parts r) (next_after progress.state.next r)) (sym comes.is)
         (subst (λ ps. IsSound terms.limits.pool (after_parts progress.state.held ps) (regions_left progress.state.regions ps ++ comes.new_region ∷ []) (comes.new_region.number + 1)) (sym comes.parts_are)
-        (sound_comes terms progress.state entry.seat comes.new_region comes.fits sound))
+        (sound_comes terms progress.state turn.seat comes.new_region comes.fits sound))
     by_kind (inr (inr leaves)) =
-        subst (λ r. IsSound terms.limits.pool (after_parts progress.state.held entry.parts) (regions_after progress.state.regions entry.parts r) (next_after progress.state.next r)) (sym leaves.none)
+        subst (λ r. IsSound terms.limits.pool (after_parts progress.state.held turn.parts) (regions_after progress.state.regions turn.parts r) (next_after progress.state.next r)) (sym leaves.none)
         (subst (λ ps. IsSound terms.limits.pool (after_parts progress.state.held ps) (regions_left progress.state.regions ps) progress.state.next) (sym leaves.parts_are)
-        (sound_leaves terms.limits.pool entry.seat progress.state.held progress.state.regions progress.state.next leaves.old_region leaves.live sound))
+        (sound_leaves terms.limits.pool turn.seat progress.state.held progress.state.regions progress.state.next leaves.old_region leaves.live sound))
 
 -- what holds of a state
 abbrev pub IsSoundState : Terms → State → Type 0
 IsSoundState terms state = IsSound terms.limits.pool state.held state.regions state.next
 
--- an event keeps it
-pub sound_event : (terms : Terms) (progress : Progress) (event : Event) → MayHappen terms progress event → IsSoundState terms progress.state → IsSoundState terms (after_event progress event).state
-sound_event terms progress (Begins seat request) may sound = sound
-sound_event terms progress (Makes entry) may sound = sound_step terms progress entry may sound
-sound_event terms progress Reset_begins may sound = sound
-sound_event terms progress Reset_ends may sound = sound
-sound_event terms progress End_begins may sound = sound
-
--- a run keeps it
-pub sound_run : (terms : Terms) (progress : Progress) (events : List Event) → IsRunFrom terms progress events → IsSoundState terms progress.state → IsSoundState terms (after_events progress events).state
-sound_run terms progress [] run sound = sound
-sound_run terms progress (event ∷ events) (may, run) sound = sound_run terms (after_event progress event) events run (sound_event terms progress event may sound)
-
 -- no region and no byte
-pub sound_nothing : (terms : Terms) → IsSoundState terms nothing_yet
-sound_nothing terms = record {
+pub sound_nothing : (pool next : ℕ) → IsSound pool (λ byte. None) [] next
+sound_nothing pool next = record {
   some = λ region live byte inside. absurd (let below = live.1 in omega arith);
   none = λ byte holds. absurd (let e : false ≡ true = holds in cc);
   fits = λ region live. absurd (let below = live.1 in omega arith);
   unique = λ one other live live_other same. absurd (let below = live.1 in omega arith);
 }
 
+-- an event keeps it
+pub sound_event : (terms : Terms) (progress : Progress) (event : Event) → MayHappen terms progress event → IsSoundState terms progress.state → IsSoundState terms (after_event progress event).state
+sound_event terms progress (Begins seat request) may sound = sound
+sound_event terms progress (Makes turn) may sound = sound_step terms progress turn may sound
+sound_event terms progress Reset_begins may sound = sound
+sound_event terms progress Reset_ends may sound = sound
+sound_event terms progress (Ends farewells) may sound = sound_nothing terms.limits.pool progress.state.next
+
+-- a run keeps it
+pub sound_run : (terms : Terms) (progress : Progress) (events : List Event) → IsRunFrom terms progress events → IsSoundState terms progress.state → IsSoundState terms (after_events progress events).state
+sound_run terms progress [] run sound = sound
+sound_run terms progress (event ∷ events) (may, run) sound = sound_run terms (after_event progress event) events run (sound_event terms progress event may sound)
+
 -- in a run each byte of each region has exactly one holder
 pub runs_have_one_holder : RunsHaveOneHolder
 runs_have_one_holder terms events run =
-    let sound : IsSoundState terms (after_events no_progress events).state = sound_run terms no_progress events run.1 (sound_nothing terms) in
+    let sound : IsSoundState terms (after_events no_progress events).state = sound_run terms no_progress events run.1 (sound_nothing terms.limits.pool 0) in
     record {
       one = λ region live byte inside.
           holders_of-is (after_events no_progress events).state.held byte ((after_events no_progress events).state.held byte) refl
@@ -250,18 +252,3 @@ runs_have_one_holder terms events run =
           holders_of-is (after_events no_progress events).state.held byte ((after_events no_progress events).state.held byte) refl
           ∙ ap (λ (b : Bool). if b then 1 else 0) none;
     }
-
--- a run goes on with another, and what a run begins with is one
-pub run-append : (terms : Terms) (progress : Progress) (first second : List Event) → IsRunFrom terms progress first → IsRunFrom terms (after_events progress first) second →
-    IsRunFrom terms progress (first ++ second)
-run-append terms progress [] second run more = more
-run-append terms progress (event ∷ events) second (may, run) more = (may, run-append terms (after_event progress event) events second run more)
-
-pub run-front : (terms : Terms) (progress : Progress) (first second : List Event) → IsRunFrom terms progress (first ++ second) → IsRunFrom terms progress first
-run-front terms progress [] second run = tt
-run-front terms progress (event ∷ events) second (may, run) = (may, run-front terms (after_event progress event) events second run)
-
--- the progress after two lists of events
-pub after_events-append : (progress : Progress) (first second : List Event) → after_events progress (first ++ second) ≡ after_events (after_events progress first) second
-after_events-append progress [] second = refl
-after_events-append progress (event ∷ events) second = after_events-append (after_event progress event) events second

@@ -11,10 +11,13 @@ use Rattle.size_classes.specs.declared.Served.{Served}
 use Rattle.size_classes.specs.declared.Served.TheVariants.{Small, Large, Bad}
 use Rattle.machine.specs.States.{Terms, State}
 use Rattle.machine.specs.Ranges.{AreDisjoint}
-use Rattle.machine.specs.Journal.{Entry, Look}
+use Rattle.machine.specs.Journal.{Turn, Look}
 use Rattle.machine.specs.Looks.{bin_of, first_bin, blocks_seen, HasSlab, Fits}
 use Rattle.machine.specs.Answers.{Call}
-use Rattle.machine.specs.Runs.{Event, Begins, Makes, Reset_begins, Reset_ends, End_begins, Serving, Resetting, Progress, no_progress, has_any, with_step, after_begin, after_step, after_event, after_events, after_other_begins, new_call, IsJustPut, AreLists, MayHappen, IsRunFrom}
+use Rattle.machine.specs.Events.{Event, Begins, Makes, Reset_begins, Reset_ends, Ends, Serving, Resetting, Progress, no_progress, has_any, with_step}
+use Rattle.machine.specs.Events.{after_begin, after_step, after_event, after_events, after_other_begins, new_call}
+use Rattle.machine.specs.Turns.{IsJustPut, AreLists}
+use Rattle.machine.specs.Runs.{MayHappen, IsRunFrom}
 use Rattle.machine.specs.Laws.{IsInBins, LooksMissNone}
 use Rattle.machine.proofs.Shapes.{each-contains}
 use Rattle.list_laws.proofs.Members.{Contains-filter_from}
@@ -151,30 +154,30 @@ lone_begin progress seat request serving lone = record {
     by_calls [] none = tt
     by_calls (call ∷ calls) none = absurd (let e = none in cc)
 
-pub lone_step : (progress : Progress) (entry : Entry) → IsLone progress → IsLone (after_step progress entry)
-lone_step progress entry lone = record {
-  lone = λ once. short (is_some entry.answer) (lone.lone once);
-  quiet = λ other. none (is_some entry.answer) progress.calls (lone.quiet other);
+pub lone_step : (progress : Progress) (turn : Turn) → IsLone progress → IsLone (after_step progress turn)
+lone_step progress turn lone = record {
+  lone = λ once. short (is_some turn.answer) (lone.lone once);
+  quiet = λ other. none (is_some turn.answer) progress.calls (lone.quiet other);
 }
   where
     short : (b : Bool) → IsShort progress.calls →
-        IsShort (if b then filter (λ call. not (call.seat == entry.seat)) progress.calls else map (λ call. if call.seat == entry.seat then with_step progress.state entry call else call) progress.calls)
-    short true is = short-filter (λ (call : Call). not (call.seat == entry.seat)) progress.calls is
-    short false is = short-map (λ (call : Call). if call.seat == entry.seat then with_step progress.state entry call else call) progress.calls is
+        IsShort (if b then filter (λ call. not (call.seat == turn.seat)) progress.calls else map (λ call. if call.seat == turn.seat then with_step progress.state turn call else call) progress.calls)
+    short true is = short-filter (λ (call : Call). not (call.seat == turn.seat)) progress.calls is
+    short false is = short-map (λ (call : Call). if call.seat == turn.seat then with_step progress.state turn call else call) progress.calls is
 
     none : (b : Bool) (calls : List Call) → calls ≡ [] →
-        (if b then filter (λ call. not (call.seat == entry.seat)) calls else map (λ call. if call.seat == entry.seat then with_step progress.state entry call else call) calls) ≡ []
-    none true calls is = ap (λ cs. filter (λ (call : Call). not (call.seat == entry.seat)) cs) is
-    none false calls is = ap (λ cs. map (λ (call : Call). if call.seat == entry.seat then with_step progress.state entry call else call) cs) is
+        (if b then filter (λ call. not (call.seat == turn.seat)) calls else map (λ call. if call.seat == turn.seat then with_step progress.state turn call else call) calls) ≡ []
+    none true calls is = ap (λ cs. filter (λ (call : Call). not (call.seat == turn.seat)) cs) is
+    none false calls is = ap (λ cs. map (λ (call : Call). if call.seat == turn.seat then with_step progress.state turn call else call) cs) is
 
 pub lone_event : (terms : Terms) (progress : Progress) (event : Event) → MayHappen terms progress event → IsLone progress → IsLone (after_event progress event)
 lone_event terms progress (Begins seat request) may lone = lone_begin progress seat request may.serving lone
-lone_event terms progress (Makes entry) may lone = lone_step progress entry lone
+lone_event terms progress (Makes turn) may lone = lone_step progress turn lone
 lone_event terms progress Reset_begins may lone = record { lone = lone.lone; quiet = λ other. may.0 }
 lone_event terms progress Reset_ends may lone =
     let none : progress.calls ≡ [] = lone.quiet (λ serving. (let e : Resetting ≡ Serving = sym may.0 ∙ serving in cc)) in
     record { lone = λ once. subst IsShort (sym none) tt; quiet = λ other. absurd (other refl) }
-lone_event terms progress End_begins may lone = record { lone = lone.lone; quiet = λ other. may.0 }
+lone_event terms progress (Ends farewells) may lone = record { lone = lone.lone; quiet = λ other. may.0 }
 
 pub lone_run : (terms : Terms) (progress : Progress) (events : List Event) → IsRunFrom terms progress events → IsLone progress → IsLone (after_events progress events)
 lone_run terms progress [] run lone = lone

@@ -16,7 +16,7 @@ use Rattle.machine.proofs.Shapes.{next_object, each-contains, IsNextObject}
 
 -- a step keeps exactly one holder a byte
 pub steps_keep_one_holder : StepsKeepOneHolder
-steps_keep_one_holder terms progress entry may byte = moves_keep_one_holder entry.seat progress.state.held entry.parts may.apart may.there byte
+steps_keep_one_holder terms progress turn may byte = moves_keep_one_holder turn.seat progress.state.held turn.parts may.apart may.there byte
 
 -- steps over ranges that are apart commute
 pub apart_steps_commute : ApartStepsCommute
@@ -30,8 +30,8 @@ apart_steps_commute terms progress one other may may_other apart =
 
 -- the totals follow a step
 pub totals_follow_steps : TotalsFollowSteps
-totals_follow_steps terms progress entry may placed =
-    totals_follow_moves entry.seat progress.state.held entry.parts may.apart may.whole placed may.there
+totals_follow_steps terms progress turn may placed =
+    totals_follow_moves turn.seat progress.state.held turn.parts may.apart may.whole placed may.there
 
 -- what goes to an object is grantable
 pub pair_is_grantable : (seat : ℕ) (from : Option Holder) (grant : Grant) → is_lawful_pair seat from (Some (Object grant)) ≡ true → is_grantable seat from ≡ true
@@ -48,13 +48,13 @@ can_move-one seat held (first ∷ parts) (one, rest) part (suc k, below, is) = c
 
 -- an object that is granted was no object's
 pub grants_are_fresh : GrantsAreFresh
-grants_are_fresh terms progress entry may part inside object =
-    let next = each-contains (IsNextObject progress.state entry.seat) entry.parts
-    (next_object terms progress.state entry.seat entry.parts entry.book entry.region may.lawful) part inside object in
-    let can = can_move-one entry.seat progress.state.held entry.parts may.there part inside in
-    let lawful : is_lawful_pair entry.seat part.from (Some (Object (next_grant progress.state entry.seat))) ≡ true =
-    subst (λ to. is_lawful_pair entry.seat part.from to ≡ true) next can.lawful in
+grants_are_fresh terms progress turn may part inside object =
+    let next = each-contains (IsNextObject progress.state turn.seat) turn.parts
+    (next_object terms progress.state turn.seat turn.parts turn.book turn.region may.lawful) part inside object in
+    let can = can_move-one turn.seat progress.state.held turn.parts may.there part inside in
+    let lawful : is_lawful_pair turn.seat part.from (Some (Object (next_grant progress.state turn.seat))) ≡ true =
+    subst (λ to. is_lawful_pair turn.seat part.from to ≡ true) next can.lawful in
     record {
-      fresh = λ byte within. ap (is_grantable entry.seat) (can.there byte within) ∙ pair_is_grantable entry.seat part.from (next_grant progress.state entry.seat) lawful;
+      fresh = λ byte within. ap (is_grantable turn.seat) (can.there byte within) ∙ pair_is_grantable turn.seat part.from (next_grant progress.state turn.seat) lawful;
       grant = next;
     }

@@ -1,8 +1,10 @@
--- The entries of a journal, and the state after one.
-use Rattle.std.specs.Prelude.{ℕ, ◌+◌, ◌-◌, ◌&&◌, ◌==◌, not, Bool, true, false, if◌then◌else◌, List, [], ◌∷◌, ◌++◌, map, filter, Option, Some, None}
+-- The turns of a run, and the state after one.
+use Rattle.std.specs.Prelude.{ℕ, ◌+◌, ◌-◌, ◌&&◌, ◌==◌, not, Bool, true, false, if◌then◌else◌, List, [], ◌∷◌, ◌++◌}
+use Rattle.std.specs.Prelude.{map, filter, Option, Some, None}
 use Rattle.std.specs.List.{list_any, flat_map}
 use Rattle.pool_types.specs.declared.values.Place.{Place}
 use Rattle.pool_types.specs.declared.values.Answer.{Answer}
+use Rattle.pool_types.specs.declared.values.Region.{Region}
 use Rattle.pool_types.specs.declared.policy.RegionRec.{RegionRec}
 use Rattle.pool_types.specs.declared.rows.Row.{Row}
 use Rattle.pool_types.specs.declared.rows.KeeperChange.{KeeperChange}
@@ -22,24 +24,33 @@ pub data BookChange : Type 0 where
   Leaves : Place → BookChange
   Passes : KeeperChange → BookChange
 
--- A look at the bins from the first to the last. With it stand the blocks that were in the lists of all bins at that step, as the
--- state can't tell where one block ends and the next begins.
+-- A look at the bins from the first to the last. With it stand the blocks that were in the lists of all bins at that
+-- step, as the state can't tell where one block ends and the next begins.
 pub record Look : Type 0 where
   pub first : ℕ
   pub last : ℕ
   pub lists : List Range
 
--- What a step found that an answer cites and that the state doesn't show: a look at bins, or that the raw callback failed, when it was
--- asked for so many bytes. All else that a step finds is in the state.
+-- a call of the raw callback: it was asked for so many bytes and gave a region, or failed; or it was passed a region
+-- and took it, or failed
+pub data RawCall : Type 0 where
+  Asked : ℕ → Option Region → RawCall
+  Passed : Region → Bool → RawCall
+
+-- What a turn found that an answer cites and that the state doesn't show: a look at bins, what the raw callback
+-- answered, the number of the cache's clock that a step drew, or how many blocks of so many granules the cache said
+-- that it has. All else that a turn finds is in the state.
 pub data Sight : Type 0 where
   Nothing_seen : Sight
   Bins_seen : Look → Sight
-  Callback_failed : ℕ → Sight
+  Raw_called : RawCall → Sight
+  Tick_drawn : ℕ → Sight
+  Items_seen : ℕ → ℕ → Sight
 
--- A step of a seat: its number, the kind of step (none in a journal of whole calls), the move with all its parts, the changes of the
--- book, the record of a region that comes, what the step found, and the answer of the call that it ends. Where a journal spreads the
--- move of one step over several entries, they are joined first. Of the number nothing is asked.
-pub record Entry : Type 0 where
+-- A turn of a seat: the number of its step, the kind of step (none in a run of whole calls), the move with all its
+-- parts, the changes of the book, the record of a region that comes, what the turn found, and the answer of the call
+-- that it ends. Of the number nothing is asked: a turn that makes no step has the number of another turn's.
+pub record Turn : Type 0 where
   pub number : ℕ
   pub seat : ℕ
   pub row : Option Row
@@ -56,7 +67,8 @@ is_object holder = false
 
 -- the seats' last numbers after a move: a move that makes an object draws the seat's next number
 abbrev pub last_after : (ℕ → ℕ) → ℕ → List Part → ℕ → ℕ
-last_after last seat parts other = if list_any (λ part. is_object part.to) parts && (other == seat) then last seat + 1 else last other
+last_after last seat parts other =
+    if list_any (λ part. is_object part.to) parts && (other == seat) then last seat + 1 else last other
 
 -- one of the parts takes bytes of the region out of the pool
 abbrev pub goes : List Part → RegionRec → Bool
@@ -64,7 +76,9 @@ goes parts region = list_any (λ part. not (has_holder part.to) && (part.range.p
 
 -- the regions without those of which a part goes
 abbrev pub regions_left : List RegionRec → List Part → List RegionRec
-regions_left regions parts = if list_any (λ part. not (has_holder part.to)) parts then filter (λ region. not (goes parts region)) regions else regions
+regions_left regions parts =
+    if list_any (λ part. not (has_holder part.to)) parts then filter (λ region. not (goes parts region)) regions
+    else regions
 
 -- the live regions after a move
 abbrev pub regions_after : List RegionRec → List Part → Option RegionRec → List RegionRec
@@ -78,7 +92,9 @@ next_after next (Some region) = region.number + 1
 
 -- the slab with the new keeper, where it is the one that changes
 abbrev pub slab_after : KeeperChange → Slab → Slab
-slab_after change slab = if same_place slab.place change.slab then record { place = slab.place; class = slab.class; keeper = change.to } else slab
+slab_after change slab =
+    if same_place slab.place change.slab then record { place = slab.place; class = slab.class; keeper = change.to }
+    else slab
 
 -- the book after one change
 abbrev pub book_after_change : List Slab → BookChange → List Slab
@@ -100,31 +116,33 @@ abbrev pub block_left : Range → Range → List Range
 block_left taken block =
     if overlaps taken block
     then some_range (range_at block.place block.place.offset (taken.place.offset - block.place.offset))
-    ++ some_range (range_at block.place (taken.place.offset + taken.bytes) (block.place.offset + block.bytes - (taken.place.offset + taken.bytes)))
+    ++ some_range (range_at block.place (taken.place.offset + taken.bytes)
+    (block.place.offset + block.bytes - (taken.place.offset + taken.bytes)))
     else block ∷ []
 
 -- the blocks in bins after one part: what comes from bins is taken out of its block, and what goes to bins is a block
 abbrev pub blocks_after_part : List Range → Part → List Range
 blocks_after_part blocks part =
-    (if is_at OfBin part.from then flat_map (block_left part.range) blocks else blocks) ++ (if is_at OfBin part.to then part.range ∷ [] else [])
+    (if is_at OfBin part.from then flat_map (block_left part.range) blocks else blocks)
+    ++ (if is_at OfBin part.to then part.range ∷ [] else [])
 
 -- the blocks in bins after several parts
 abbrev pub blocks_after : List Range → List Part → List Range
 blocks_after blocks [] = blocks
 blocks_after blocks (part ∷ parts) = blocks_after (blocks_after_part blocks part) parts
 
--- the state after an entry
-abbrev pub after_entry : State → Entry → State
-after_entry state entry = record {
-  held = after_parts state.held entry.parts;
-  regions = regions_after state.regions entry.parts entry.region;
-  next = next_after state.next entry.region;
-  book = book_after state.book entry.book;
-  last = last_after state.last entry.seat entry.parts;
-  blocks = blocks_after state.blocks entry.parts;
+-- the state after a turn
+abbrev pub after_turn : State → Turn → State
+after_turn state turn = record {
+  held = after_parts state.held turn.parts;
+  regions = regions_after state.regions turn.parts turn.region;
+  next = next_after state.next turn.region;
+  book = book_after state.book turn.book;
+  last = last_after state.last turn.seat turn.parts;
+  blocks = blocks_after state.blocks turn.parts;
 }
 
--- the state after several entries
-abbrev pub after_entries : State → List Entry → State
-after_entries state [] = state
-after_entries state (entry ∷ entries) = after_entries (after_entry state entry) entries
+-- the state after several turns
+abbrev pub after_turns : State → List Turn → State
+after_turns state [] = state
+after_turns state (turn ∷ turns) = after_turns (after_turn state turn) turns

@@ -6,6 +6,13 @@ pub mod Lawful
 pub mod Suits
 pub mod Looks
 pub mod Answers
+pub mod Cleaning
+pub mod Events
+pub mod Turns
 pub mod Runs
+pub mod Callback
+pub mod Stored
+pub mod Leaks
+pub mod Ledger
 pub mod Examples
 pub mod Laws

@@ -1,8 +1,10 @@
 -- What a scan of the bins looks at, and which block fits.
-use Rattle.std.specs.Prelude.{◌≡◌, ◌≢◌, ℕ, ◌+◌, ◌-◌, ◌*◌, ◌/◌, ◌%◌, ◌≤◌, ◌&&◌, min, nat_le, true, List, [], ◌∷◌, length, filter, Contains, Some}
+use Rattle.std.specs.Prelude.{◌≡◌, ◌≢◌, ℕ, ◌+◌, ◌-◌, ◌*◌, ◌/◌, ◌%◌, ◌≤◌, ◌&&◌, min, nat_le, true, List, [], ◌∷◌}
+use Rattle.std.specs.Prelude.{length, filter, Contains, Some}
 use Rattle.pool_types.specs.declared.values.Place.{Place}
 use Rattle.pool_types.specs.declared.values.Request.{Request}
-use Rattle.pool_types.specs.declared.values.Request.TheVariants.{Malloc, Aligned, Realloc, AlignedRealloc, Free, Msize, Identify, Exit}
+use Rattle.pool_types.specs.declared.values.Request.TheVariants.{Malloc, Aligned, Realloc, AlignedRealloc, Free}
+use Rattle.pool_types.specs.declared.values.Request.TheVariants.{Msize, Identify, Exit}
 use Rattle.pool_types.specs.declared.policy.Limits.{Limits}
 use Rattle.pool_types.specs.declared.policy.RegionRec.{RegionRec}
 use Rattle.pool_types.specs.declared.rows.Keeper.TheVariants.{Seat, Orphan}
@@ -15,7 +17,7 @@ use Rattle.size_classes.specs.declared.Served.TheVariants.{Small, Large, Bad}
 use Rattle.size_classes.specs.Served.{served_plain, served}
 use Rattle.machine.specs.States.{State, Slab}
 use Rattle.machine.specs.Ranges.{IsIn, slab_range}
-use Rattle.machine.specs.Journal.{Look, Sight, Nothing_seen, Bins_seen, Callback_failed}
+use Rattle.machine.specs.Journal.{Look, Sight, Nothing_seen, Bins_seen, Raw_called, Tick_drawn, Items_seen}
 use Rattle.machine.specs.Lawful.{IsKeptOf}
 
 -- what the new object of a request is served as
@@ -65,7 +67,8 @@ Fits limits state Bad block = ⊥
 
 -- the blocks in the lists of the bins that a look is at
 abbrev pub blocks_seen : Look → List Range
-blocks_seen look = filter (λ block. nat_le look.first (bin_of block.bytes) && nat_le (bin_of block.bytes) look.last) look.lists
+blocks_seen look =
+    filter (λ block. nat_le look.first (bin_of block.bytes) && nat_le (bin_of block.bytes) look.last) look.lists
 
 -- a look, and the state in which it was made
 pub record Looked : Type 0 where
@@ -76,20 +79,24 @@ pub record Looked : Type 0 where
 abbrev pub look_of : State → Sight → List Looked
 look_of state (Bins_seen look) = record { state = state; look = look } ∷ []
 look_of state Nothing_seen = []
-look_of state (Callback_failed bytes) = []
+look_of state (Raw_called call) = []
+look_of state (Tick_drawn tick) = []
+look_of state (Items_seen granules items) = []
 
--- The looks are at the bins from this one to the last, at each once and in order. None of the blocks in their lists fits, and the number of
--- these blocks is `seen`.
+-- The looks are at the bins from this one to the last, at each once and in order. None of the blocks in their lists
+-- fits, and the number of these blocks is `seen`.
 abbrev pub AreInVain : Limits → Served → ℕ → List Looked → ℕ → Type 0
 AreInVain limits served bin [] seen = (bin ≡ bin_count) × (seen ≡ 0)
 AreInVain limits served bin (looked ∷ rest) seen =
     (looked.look.first ≡ bin) × (bin ≤ looked.look.last)
     × ((block : Range) → Contains (blocks_seen looked.look) block → Fits limits looked.state served block → ⊥)
-    × ((more : ℕ) × AreInVain limits served (looked.look.last + 1) rest more × (seen ≡ length (blocks_seen looked.look) + more))
+    × ((more : ℕ) × AreInVain limits served (looked.look.last + 1) rest more
+    × (seen ≡ length (blocks_seen looked.look) + more))
 
 -- a byte of a slab of the class that the seat keeps
 abbrev pub IsOwnByte : State → ℕ → ℕ → Place → Type 0
-IsOwnByte state seat class byte = (slab : Slab) × IsKeptOf state class (Seat seat) slab × (lies_in byte (slab_range slab.place) ≡ true)
+IsOwnByte state seat class byte = (slab : Slab) × IsKeptOf state class (Seat seat) slab
+    × (lies_in byte (slab_range slab.place) ≡ true)
 
 -- no slab of the class that the seat keeps has an object to give, and it has no slab in its slab cache
 pub record NoneFree (state : State) (seat class : ℕ) : Type 0 where
@@ -97,8 +104,8 @@ pub record NoneFree (state : State) (seat class : ℕ) : Type 0 where
   pub private : (byte : Place) → IsOwnByte state seat class byte → state.held byte ≢ Some Private
   pub stored : (byte : Place) → state.held byte ≢ Some (SlabCache seat)
 
--- no object of a slab of the class that the seat keeps was freed by another seat and not yet taken back, and no slab of the class is an
--- orphan
+-- no object of a slab of the class that the seat keeps was freed by another seat and not yet taken back, and no slab
+-- of the class is an orphan
 pub record NoneWaits (state : State) (seat class : ℕ) : Type 0 where
   pub public : (byte : Place) → IsOwnByte state seat class byte → state.held byte ≢ Some Public
   pub orphan : (slab : Slab) → IsKeptOf state class Orphan slab → ⊥

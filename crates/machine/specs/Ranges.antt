@@ -1,5 +1,6 @@
 -- The ranges of granules, of slabs and of their objects. Bytes are counted from the region's first byte.
-use Rattle.std.specs.Prelude.{◌≡◌, ℕ, ◌+◌, ◌*◌, ◌%◌, ◌<◌, ◌≤◌, ◌&&◌, ◌==◌, Bool, nat_lt, List, [], ◌∷◌, map, Contains, Option}
+use Rattle.std.specs.Prelude.{◌≡◌, ℕ, ◌+◌, ◌*◌, ◌%◌, ◌<◌, ◌≤◌, ◌&&◌, ◌==◌, Bool, nat_lt, List, [], ◌∷◌, map}
+use Rattle.std.specs.Prelude.{Contains, Option}
 use Rattle.std.specs.List.{list_any}
 use Rattle.pool_types.specs.declared.values.Place.{Place}
 use Rattle.pool_types.specs.declared.policy.Limits.{Limits}
@@ -25,17 +26,23 @@ AreDisjoint (range ∷ ranges) = Each (IsApart range) ranges × AreDisjoint rang
 
 -- the bytes from an offset on, in the region of a place
 abbrev pub range_at : Place → ℕ → ℕ → Range
-range_at place offset bytes = record { place = record { pool = place.pool; region = place.region; offset = offset }; bytes = bytes }
+range_at place offset bytes = record {
+  place =
+      record { pool = place.pool; region = place.region; offset = offset };
+  bytes = bytes;
+}
 
 -- some byte lies in both
 abbrev pub overlaps : Range → Range → Bool
 overlaps one other =
     same_region one.place other.place
-    && nat_lt one.place.offset (other.place.offset + other.bytes) && nat_lt other.place.offset (one.place.offset + one.bytes)
+    && nat_lt one.place.offset (other.place.offset + other.bytes)
+    && nat_lt other.place.offset (one.place.offset + one.bytes)
 
 -- the bytes from an offset on, in a region of the pool
 abbrev pub region_range : ℕ → RegionRec → ℕ → ℕ → Range
-region_range pool region offset bytes = record { place = record { pool = pool; region = region.number; offset = offset }; bytes = bytes }
+region_range pool region offset bytes =
+    record { place = record { pool = pool; region = region.number; offset = offset }; bytes = bytes }
 
 -- one part: a range that goes from one holder to another
 abbrev pub part_of : Range → Option Holder → Option Holder → Part
@@ -81,7 +88,8 @@ pub record IsBlock (limits : Limits) (state : State) (range : Range) (granules :
   pub whole : IsGranules limits state range granules
   pub free : IsOffBook state range
 
--- a slab can be here: two granules, of which the first has an address that is a multiple of a slab's bytes, that are in no slab of the book
+-- a slab can be here: two granules, of which the first has an address that is a multiple of a slab's bytes, that are
+-- in no slab of the book
 pub record IsSlabRoom (limits : Limits) (state : State) (place : Place) : Type 0 where
   pub block : IsBlock limits state (slab_range place) slab_granules
   pub even : (block.whole.region.region.base + place.offset) % slab_bytes ≡ 0
@@ -96,11 +104,13 @@ objects_range place class = range_at place (place.offset + head_bytes class) (cl
 
 -- an object of a slab: they are counted from the slab's end
 abbrev pub object_range : Slab → ℕ → Range
-object_range slab object = range_at slab.place (slab.place.offset + object_offset slab.class object) (class_size slab.class)
+object_range slab object =
+    range_at slab.place (slab.place.offset + object_offset slab.class object) (class_size slab.class)
 
 -- what lies in a slab behind an object: the objects of lower count
 abbrev pub behind_object : Slab → ℕ → Range
-behind_object slab object = range_at slab.place (slab.place.offset + rest_end slab.class object) (object * class_size slab.class)
+behind_object slab object =
+    range_at slab.place (slab.place.offset + rest_end slab.class object) (object * class_size slab.class)
 
 -- the slab is in the book and has an object of this count
 pub record IsObjectOf (state : State) (slab : Slab) (object : ℕ) : Type 0 where

@@ -1,8 +1,10 @@
 -- Which objects suit a request.
-use Rattle.std.specs.Prelude.{◌≡◌, ℕ, ◌+◌, ◌*◌, ◌%◌, ◌≤◌, ◌==◌, nat_le, Bool, true, false, if◌then◌else◌, Contains, Option, None}
+use Rattle.std.specs.Prelude.{◌≡◌, ℕ, ◌+◌, ◌*◌, ◌%◌, ◌≤◌, ◌==◌, nat_le, Bool, true, false, if◌then◌else◌, Contains}
+use Rattle.std.specs.Prelude.{Option, None}
 use Rattle.pool_types.specs.declared.values.Place.{Place}
 use Rattle.pool_types.specs.declared.values.Request.{Request}
-use Rattle.pool_types.specs.declared.values.Request.TheVariants.{Malloc, Aligned, Realloc, AlignedRealloc, Free, Msize, Identify, Exit}
+use Rattle.pool_types.specs.declared.values.Request.TheVariants.{Malloc, Aligned, Realloc, AlignedRealloc, Free}
+use Rattle.pool_types.specs.declared.values.Request.TheVariants.{Msize, Identify, Exit}
 use Rattle.pool_types.specs.declared.policy.Limits.{Limits}
 use Rattle.pool_types.specs.declared.policy.RegionRec.{RegionRec}
 use Rattle.pool_types.specs.Geometry.{unit_bytes, largest_small, line_bytes}
@@ -48,7 +50,9 @@ least_usable size = if size == 0 then unit_bytes else size
 
 -- the alignment that a request without one may count on
 abbrev pub plain_alignment : ℕ → ℕ
-plain_alignment size = if nat_le size unit_bytes then unit_bytes else (if nat_le size largest_small then 2 * unit_bytes else line_bytes)
+plain_alignment size =
+    if nat_le size unit_bytes then unit_bytes
+    else (if nat_le size largest_small then 2 * unit_bytes else line_bytes)
 
 -- the alignment that suits a request
 abbrev pub alignment_of : Request → ℕ

@@ -20,7 +20,7 @@ pub fn calls_part_each_granule()
     ensures { CallsPartEach }
 {}
 
-/// While nothing is freed, where an object lies is a function of counts. Where `m` earlier calls got an object of a class
+/// Where every call is a malloc, where an object lies is a function of counts. Where `m` earlier calls got an object of a class
 /// whose slabs have `k`, the next one is object `m mod k` of its slab. An object 0 begins the next slab; any other lies in
 /// the slab of the last object 0 of its class. Null comes exactly where an object 0 is due and all 64 slabs were begun.
 pub fn mallocs_are_placed()

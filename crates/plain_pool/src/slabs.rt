@@ -7,8 +7,9 @@ ghost use Rattle.plain_lists.specs.Whole.{object_of, place_at, grant_of};
 
 use crate::marks::Mark;
 use index_lists::IndexLists;
+use pool_types::geometry::CLASSES;
 use pool_types::{Grant, Leak, Place};
-use size_classes::{CLASSES, Class, object_offset};
+use size_classes::{Class, object_offset};
 use slab_core::SlabRec;
 use std::alloc::{AllocError, Global};
 

@@ -72,7 +72,6 @@ slab_ended state layout region granted slab laid_slab private knows = record {
   step = record {
     parts = end_parts slab;
     book = Gone (granule_place slab.index) ∷ [];
-    region = None;
     is = refl;
     made = record {
       whole = each-all (λ (part : Part). IsWhole part.range) (end_parts slab) whole;
@@ -84,6 +83,7 @@ slab_ended state layout region granted slab laid_slab private knows = record {
       });
     };
     quiet = quiet;
+    slabs = λ s call. tt;
   };
   knows = record {
     held_is = λ byte. after_parts-at state.held (held_by layout) (end_parts slab) byte (knows.held_is byte)

@@ -8,12 +8,12 @@ use Rattle.pool_types.specs.declared.values.Place.{Place}
 use Rattle.pool_types.specs.declared.values.Region.{Region}
 use Rattle.pool_types.specs.declared.values.Request.TheVariants.{Free}
 use Rattle.pool_types.specs.declared.values.Answer.TheVariants.{Freed as FreedAnswer}
-use Rattle.part_model.specs.declared.holders.Holder.TheVariants.{Private, Object, Hand}
+use Rattle.part_model.specs.declared.holders.Holder.TheVariants.{Private, Object, Hand, Head, Rest}
 use Rattle.part_model.specs.declared.moves.Part.{Part}
 use Rattle.size_classes.specs.Classes.{class_size}
-use Rattle.machine.specs.States.{State}
-use Rattle.machine.specs.Ranges.{Each}
-use Rattle.machine.specs.Journal.{Entry, Nothing_seen, after_entry, after_entries}
+use Rattle.machine.specs.States.{State, fixed_terms}
+use Rattle.machine.specs.Ranges.{Each, head_range}
+use Rattle.machine.specs.Journal.{Turn, Nothing_seen, after_turn, after_turns}
 use Rattle.machine.specs.Lawful.{nothing_moves}
 use Rattle.machine.specs.Answers.{Moment, moved_parts}
 use Rattle.machine.proofs.CallerLemmas.{each-append, nothing_moved, none_whole, none_apart}
@@ -29,50 +29,62 @@ use Rattle.plain_lists.proofs.Beside.{AreGoodBeside, beside_none}
 use Rattle.plain_lists.proofs.Calls.{shelves}
 use Rattle.plain_lists.proofs.Spots.{IsSpotAt, spot_at-Some}
 use Rattle.plain_lists.proofs.ObjectPlaces.{spot_place}
-use Rattle.plain_runs.specs.Steps.{fixed_terms, still_step, free_step, frees_steps, free_steps, shelf_steps, end_step, store_step, trim_steps, puts_steps, steps_of}
+use Rattle.plain_runs.specs.Steps.{still_step, free_step, frees_steps, free_steps, shelf_steps, end_step, store_step, trim_steps, puts_steps, steps_of, granule_place, rest_range, handed_range}
 use Rattle.plain_runs.proofs.Layouts.{Use, Away, InBin, InHand, InCache, OfSlab, Layout, laid, IsLaid, Knows}
 use Rattle.plain_runs.proofs.Moves.{laid-inside, laid-outside, plain_no_slab, IsQuiet, IsMade}
 use Rattle.plain_runs.proofs.GranuleSteps.{shelf_step}
 use Rattle.plain_runs.proofs.ObjectSteps.{on_slab, same_slab}
 use Rattle.plain_runs.proofs.EndSteps.{AllPrivate, slab_ended}
-use Rattle.plain_runs.proofs.Courses.{call_with, moment, moments_of, AreQuiet, IsStep, one_leads, lead_on, quiet_leads, quiet_parts, quiet_from, quiet_none, granted_none, ended_none, moved_parts-append, call_runs}
+use Rattle.plain_runs.proofs.Courses.{call_with, moment, moments_of, AreQuiet, IsStep, one_leads, lead_on, quiet_leads, quiet_parts, quiet_from, quiet_none, granted_none, ended_none, moved_parts-append, call_runs, due_after-append, quiet_due, cleaned_from, quiet_small, quiet_ticks, NoTick}
 use Rattle.plain_runs.proofs.LaidOut.{Lays, Holds, lays_changed}
 use Rattle.plain_runs.proofs.GrantSteps.{object_part, object_back}
-use Rattle.plain_runs.proofs.Legal.{never, none_in_hand}
+use Rattle.plain_runs.proofs.Legal.{never, none_in_hand, calm_pool}
 use Rattle.plain_runs.proofs.RoomSteps.{used_region, knows_region}
 use Rattle.plain_runs.proofs.MallocRuns.{WholeRuns}
 use Rattle.plain_runs.proofs.Objects.{listed_laid}
 use Rattle.plain_runs.proofs.LookRuns.{free_none_runs, free_missing_runs}
 use Rattle.plain_runs.proofs.PutSteps.{IsPut, slabs_put}
+use Rattle.plain_runs.proofs.Bins.{BlocksIn, IsOffBins, blocks_stay}
+use Rattle.plain_runs.proofs.SlabSteps.{end_parts, each_three}
+use Rattle.machine.specs.Turns.{Nothing_due}
 
 -- an object comes back, then quiet steps, and then the answer
-pub run_freed : (state : State) (lists' : Lists) (slab : OwnSlab) (object number : ℕ) (entries : List Entry) → IsMade state (free_step slab object number).parts [] None →
-    AreQuiet (after_entry state (free_step slab object number)) entries → Holds (after_entries (after_entry state (free_step slab object number)) entries) lists' →
-    WholeRuns state (Free (Some (place_at slab.index slab.class object))) (free_step slab object number ∷ (entries ++ still_step (Some FreedAnswer) ∷ [])) lists'
-run_freed state lists' slab object number entries made quiet holds = record {
+pub run_freed : (state : State) (lists' : Lists) (slab : OwnSlab) (object number : ℕ) (turns : List Turn) → IsMade state (free_step slab object number).parts [] None →
+    AreQuiet (after_turn state (free_step slab object number)) turns → Holds (after_turns (after_turn state (free_step slab object number)) turns) lists' →
+    WholeRuns state (Free (Some (place_at slab.index slab.class object))) (free_step slab object number ∷ (turns ++ still_step (Some FreedAnswer) ∷ [])) lists'
+run_freed state lists' slab object number turns made quiet holds = record {
   next = next;
-  runs = call_runs state (Free (Some (place_at slab.index slab.class object))) (free_step slab object number ∷ entries) next moments [] Nothing_seen FreedAnswer
-      (lead_on (Free (Some (place_at slab.index slab.class object))) state state [] (free_step slab object number) entries freed (first ∷ []) moments next
+  runs = call_runs state (Free (Some (place_at slab.index slab.class object))) (free_step slab object number ∷ turns) next moments [] Nothing_seen FreedAnswer refl
+      (lead_on (Free (Some (place_at slab.index slab.class object))) state state [] (free_step slab object number) turns freed (first ∷ []) moments next
       (one_leads (Free (Some (place_at slab.index slab.class object))) state state [] (free_step slab object number) step)
-      (quiet_leads (Free (Some (place_at slab.index slab.class object))) state freed (first ∷ []) entries quiet))
+      (quiet_leads (Free (Some (place_at slab.index slab.class object))) state freed (first ∷ []) turns quiet))
       (record {
         whole = none_whole;
         apart = none_apart;
         there = tt;
         lawful = nothing_moves;
-        fits = (
-          tt,
-          tt,
-          record {
-            answers = (
-              granted_none (part ∷ others) (refl, quiet_none others others_quiet),
-              (class_size slab.class, grant_of number, record { to = Some Private; one = ap (λ (ps : List Part). part ∷ ps) (ended_none (part ∷ []) others (quiet_from others others_quiet)) }),
-            );
-            no_hand = never next lists' holds (Some (Hand 0)) refl;
-            no_slab = none_in_hand next lists' holds;
-          },
-        );
-        moves = nothing_moved fixed_terms (call_with state (Free (Some (place_at slab.index slab.class object))) moments);
+        fits = record {
+          sight = tt;
+          moves = nothing_moved fixed_terms (call_with state (Free (Some (place_at slab.index slab.class object))) moments);
+          large = tt;
+          slabs = tt;
+          comes = tt;
+          leaves = tt;
+          answered = record {
+            legal = record {
+              answers = (
+                granted_none (part ∷ others) (refl, quiet_none others others_quiet),
+                (class_size slab.class, grant_of number, record { to = Some Private; one = ap (λ (ps : List Part). part ∷ ps) (ended_none (part ∷ []) others (quiet_from others others_quiet)) }),
+              );
+              no_hand = never next lists' holds (Some (Hand 0)) refl;
+              no_slab = none_in_hand next lists' holds;
+            };
+            due = due_after-append Nothing_due (moments_of freed turns) (moment next (still_step (Some FreedAnswer)) ∷ []) ∙ quiet_due Nothing_due freed turns quiet;
+            cleaned = cleaned_from (moments ++ moment next (still_step (Some FreedAnswer)) ∷ []) (refl, quiet_small others others_quiet)
+                (refl, each-append NoTick (moments_of freed turns) (moment next (still_step (Some FreedAnswer)) ∷ []) (quiet_ticks freed turns quiet) (refl, tt));
+            calm = λ once. calm_pool next lists' [] holds;
+          };
+        };
       });
   holds = holds;
 }
@@ -81,33 +93,42 @@ run_freed state lists' slab object number entries made quiet holds = record {
     part = object_part slab object (Some (Object (grant_of number))) (Some Private)
 
     freed : State
-    freed = after_entry state (free_step slab object number)
+    freed = after_turn state (free_step slab object number)
 
     next : State
-    next = after_entries (after_entry state (free_step slab object number)) entries
+    next = after_turns (after_turn state (free_step slab object number)) turns
 
     first : Moment
     first = moment state (free_step slab object number)
 
     moments : List Moment
-    moments = moment state (free_step slab object number) ∷ moments_of (after_entry state (free_step slab object number)) entries
+    moments = moment state (free_step slab object number) ∷ moments_of (after_turn state (free_step slab object number)) turns
 
     others : List Part
-    others = moved_parts (moments_of (after_entry state (free_step slab object number)) entries ++ moment (after_entries (after_entry state (free_step slab object number)) entries) (still_step (Some FreedAnswer)) ∷ [])
+    others = moved_parts (moments_of (after_turn state (free_step slab object number)) turns ++ moment (after_turns (after_turn state (free_step slab object number)) turns) (still_step (Some FreedAnswer)) ∷ [])
 
     others_quiet : Each IsQuiet others
-    others_quiet = subst (Each IsQuiet) (sym (moved_parts-append (moments_of freed entries) (moment next (still_step (Some FreedAnswer)) ∷ [])))
-        (each-append IsQuiet (moved_parts (moments_of freed entries)) [] (quiet_parts freed entries quiet) tt)
+    others_quiet = subst (Each IsQuiet) (sym (moved_parts-append (moments_of freed turns) (moment next (still_step (Some FreedAnswer)) ∷ [])))
+        (each-append IsQuiet (moved_parts (moments_of freed turns)) [] (quiet_parts freed turns quiet) tt)
 
-    step : IsStep (Free (Some (place_at slab.index slab.class object))) state (free_step slab object number)
+    step : IsStep (Free (Some (place_at slab.index slab.class object))) state state [] (free_step slab object number)
     step = record {
       parts = part ∷ [];
       book = [];
       region = None;
+      seen = Nothing_seen;
       is = refl;
+      clock = refl;
       made = made;
-      small = refl;
-      moves = λ before moments. record { grants = refl; ends = (inl refl, tt); keeps = refl };
+      fits = record {
+        sight = tt;
+        moves = record { grants = refl; ends = (inl refl, tt); keeps = refl };
+        large = tt;
+        slabs = tt;
+        comes = tt;
+        leaves = tt;
+        answered = tt;
+      };
     }
 
 -- as many are none as there are: all are
@@ -142,6 +163,7 @@ run_back state lists slab object number holds member held good =
       knows = back.knows;
       lays = lays_changed lists holds.layout slab (slice_set slab.objects object None) (object ∷ slab.private) lists.granted holds.lays laid_slab.whole;
       good = good;
+      blocks = blocks_stay state (free_step slab object number) lists.blocks (record { from = refl; to = refl }, tt) holds.blocks;
     })
 
 -- the lists with a slab in the slab cache
@@ -169,9 +191,9 @@ lays_shelved lists layout slab one other lays member = record {
         laid-outside (laid (laid layout slab.index 2 one) slab.index 2 other) slab.index 2 InCache g off ∙ laid-outside (laid layout slab.index 2 one) slab.index 2 other g off ∙ laid-outside layout slab.index 2 one g off ∙ is
 
 -- the slab cache is trimmed, where it has too many
-pub trim_run : (state : State) (lists : Lists) (layout : Layout) (region : Region) → AreGoodBeside [] lists → Lays lists layout → Knows state layout (Some region) lists.granted →
+pub trim_run : (state : State) (lists : Lists) (layout : Layout) (region : Region) → AreGoodBeside [] lists → Lays lists layout → Knows state layout (Some region) lists.granted → BlocksIn state lists.blocks →
     IsPut state (trimmed lists) region (trim_steps lists.stored lists.blocks)
-trim_run state lists layout region good lays knows = go (nat_le 33 (length lists.stored))
+trim_run state lists layout region good lays knows bins = go (nat_le 33 (length lists.stored))
   where
     cut : take 25 lists.stored ++ drop 25 lists.stored ≡ lists.stored
     cut = take-append-drop 25 lists.stored
@@ -179,8 +201,8 @@ trim_run state lists layout region good lays knows = go (nat_le 33 (length lists
     go : (b : Bool) → IsPut state (if b then record lists { stored = drop 25 lists.stored; blocks = after_puts (take 25 lists.stored) lists.blocks } else lists) region
         (if b then puts_steps (take 25 lists.stored) lists.blocks else [])
     go true = slabs_put (take 25 lists.stored) (drop 25 lists.stored) state lists lists.blocks layout region
-        (subst (λ stored. AreGoodBeside [] (record lists { stored = stored })) (sym cut) good) (subst (λ stored. Lays (record lists { stored = stored }) layout) (sym cut) lays) knows
-    go false = record { layout = layout; quiet = tt; knows = knows; lays = lays }
+        (subst (λ stored. AreGoodBeside [] (record lists { stored = stored })) (sym cut) good) (subst (λ stored. Lays (record lists { stored = stored }) layout) (sym cut) lays) knows bins
+    go false = record { layout = layout; quiet = tt; knows = knows; lays = lays; blocks = bins }
 
 -- trimming leaves the region
 trimmed_region : (lists : Lists) → (trimmed lists).region ≡ lists.region
@@ -189,6 +211,11 @@ trimmed_region lists = go (nat_le 33 (length lists.stored))
     go : (b : Bool) → (if b then record lists { stored = drop 25 lists.stored; blocks = after_puts (take 25 lists.stored) lists.blocks } else lists).region ≡ lists.region
     go true = refl
     go false = refl
+
+-- a slab that ends leaves the bins
+end_off : (slab : OwnSlab) → Each IsOffBins (end_parts slab)
+end_off slab = each_three IsOffBins (head_range (granule_place slab.index) slab.class) (rest_range slab) (handed_range slab) (Some Head) (Some Rest) (Some Private) (Some (Hand 0))
+    (record { from = refl; to = refl }) (record { from = refl; to = refl }) (record { from = refl; to = refl })
 
 -- the last object of a slab comes back: the slab ends and goes into the slab cache
 pub run_shelf : (state : State) (lists : Lists) (slab : OwnSlab) (object number : ℕ) → Holds state lists → Contains lists.slabs slab → IsHeld slab object number → is_unused (taken_back slab object) ≡ true →
@@ -203,22 +230,26 @@ run_shelf state lists slab object number holds member held unused good =
     (back.knows.slabs_are slab.index (taken_back slab object) (laid-inside holds.layout slab.index 2 (OfSlab (taken_back slab object)) slab.index (on_slab slab.index slab.index (omega arith) (omega arith)))).0 in
     let end' = slab_ended freed (laid holds.layout slab.index 2 (OfSlab (taken_back slab object))) there.0 lists.granted (taken_back slab object) laid_back
     (back_private slab object number (holds.good.slabs_are slab member) held unused) knows_back in
-    let shelf = shelf_step (after_entry freed (end_step (taken_back slab object))) (laid (laid holds.layout slab.index 2 (OfSlab (taken_back slab object))) slab.index 2 InHand) there.0 lists.granted slab.index laid_slab.even laid_slab.inside
+    let shelf = shelf_step (after_turn freed (end_step (taken_back slab object))) (laid (laid holds.layout slab.index 2 (OfSlab (taken_back slab object))) slab.index 2 InHand) there.0 lists.granted slab.index laid_slab.even laid_slab.inside
     (λ g on. laid-inside (laid holds.layout slab.index 2 (OfSlab (taken_back slab object))) slab.index 2 InHand g on) end'.knows in
     let beside = shelves [] lists slab (beside_none lists holds.good) member in
-    let trim = trim_run (after_entry (after_entry freed (end_step (taken_back slab object))) (store_step slab.index)) (with_stored lists slab.index)
+    let trim = trim_run (after_turn (after_turn freed (end_step (taken_back slab object))) (store_step slab.index)) (with_stored lists slab.index)
     (laid (laid (laid holds.layout slab.index 2 (OfSlab (taken_back slab object))) slab.index 2 InHand) slab.index 2 InCache) there.0 beside
-    (lays_shelved lists holds.layout slab (OfSlab (taken_back slab object)) InHand holds.lays member) shelf.knows in
+    (lays_shelved lists holds.layout slab (OfSlab (taken_back slab object)) InHand holds.lays member) shelf.knows
+    (blocks_stay (after_turn freed (end_step (taken_back slab object))) (store_step slab.index) lists.blocks (record { from = refl; to = refl }, tt)
+    (blocks_stay freed (end_step (taken_back slab object)) lists.blocks (end_off (taken_back slab object))
+    (blocks_stay state (free_step slab object number) lists.blocks (record { from = refl; to = refl }, tt) holds.blocks))) in
     run_freed state (shelved lists slab.index) slab object number (shelf_steps lists (taken_back slab object)) back.made (end'.step, (shelf.step, trim.quiet)) (record {
       layout = trim.layout;
-      knows = subst (λ reg. Knows (after_entries (after_entry state (free_step slab object number)) (shelf_steps lists (taken_back slab object))) trim.layout reg (shelved lists slab.index).granted)
+      knows = subst (λ reg. Knows (after_turns (after_turn state (free_step slab object number)) (shelf_steps lists (taken_back slab object))) trim.layout reg (shelved lists slab.index).granted)
           (sym (trimmed_region (with_stored lists slab.index) ∙ there.1)) trim.knows;
       lays = trim.lays;
       good = good;
+      blocks = trim.blocks;
     })
   where
     freed : State
-    freed = after_entry state (free_step slab object number)
+    freed = after_turn state (free_step slab object number)
 
 -- a free of the object at a spot
 pub run_spot : (state : State) (lists : Lists) (place : Place) (spot : Spot) → Holds state lists → spot_at lists place ≡ Some spot → AreGood (frees lists spot) →

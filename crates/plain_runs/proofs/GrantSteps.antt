@@ -13,9 +13,9 @@ use Rattle.part_model.specs.Lawful.{is_lawful_pair}
 use Rattle.part_model.proofs.CallerLemmas.{lies_in-parts}
 use Rattle.size_classes.specs.Classes.{class_size, class_objects}
 use Rattle.size_classes.specs.Layout.{head_bytes}
-use Rattle.machine.specs.States.{State}
+use Rattle.machine.specs.States.{State, fixed_terms}
 use Rattle.machine.specs.Ranges.{part_of, behind_object}
-use Rattle.machine.specs.Journal.{after_entry}
+use Rattle.machine.specs.Journal.{after_turn}
 use Rattle.machine.specs.Lawful.{IsLawful, IsHighestRest, rest_granted, private_granted, object_freed}
 use Rattle.machine.proofs.CallerLemmas.{one_whole}
 use Rattle.plain_lists.specs.Lists.{OwnSlab, given, next_object, taken_back}
@@ -23,7 +23,7 @@ use Rattle.plain_lists.specs.Whole.{grant_of, got}
 use Rattle.plain_lists.specs.Good.{IsGoodSlab}
 use Rattle.plain_lists.proofs.Slabs.{CanGive, given-private, given-next, next_object-private, next_object-next, private_listed, given_next, given_other}
 use Rattle.list_laws.proofs.Gets.{slice_get-set_same, slice_get-set_other}
-use Rattle.plain_runs.specs.Steps.{fixed_terms, slab_of, grant_step, giver, free_step}
+use Rattle.plain_runs.specs.Steps.{slab_of, grant_step, giver, free_step}
 use Rattle.plain_runs.proofs.Layouts.{OfSlab, Layout, held_as, object_with, laid, IsLaid, Knows, some_bytes, object_with-has, slab_holder-behind}
 use Rattle.plain_runs.proofs.Moves.{IsMade}
 use Rattle.plain_runs.proofs.ObjectSteps.{with_objects, own_range, on_slab, held_by-in, object_there, moved_object, knows_changed, object_whole}
@@ -127,7 +127,7 @@ can_grant state layout region granted slab laid_slab giving knows = go slab.priv
 pub record Granted (state : State) (layout : Layout) (region : Option Region) (granted : ℕ) (slab : OwnSlab) : Type 0 where
   pub made : IsMade state (grant_step slab (granted + 1)).parts [] None
   pub exists : next_object slab < class_objects slab.class
-  pub knows : Knows (after_entry state (grant_step slab (granted + 1))) (laid layout slab.index 2 (OfSlab (given slab (granted + 1)))) region (granted + 1)
+  pub knows : Knows (after_turn state (grant_step slab (granted + 1))) (laid layout slab.index 2 (OfSlab (given slab (granted + 1)))) region (granted + 1)
 
 pub object_granted : (state : State) (layout : Layout) (region : Option Region) (granted : ℕ) (slab : OwnSlab) → IsLaid layout slab → GivesNext slab (granted + 1) →
     length (given slab (granted + 1)).objects ≤ class_objects slab.class → Knows state layout region granted → Granted state layout region granted slab
@@ -142,7 +142,7 @@ object_granted state layout region granted slab laid_slab giving few knows =
         lawful = grants.lawful;
       };
       exists = grants.exists;
-      knows = subst (λ (next : OwnSlab). Knows (after_entry state (grant_step slab (granted + 1))) (laid layout slab.index 2 (OfSlab next)) region (granted + 1)) (sym (given_form slab (granted + 1)))
+      knows = subst (λ (next : OwnSlab). Knows (after_turn state (grant_step slab (granted + 1))) (laid layout slab.index 2 (OfSlab next)) region (granted + 1)) (sym (given_form slab (granted + 1)))
           (knows_changed state layout region granted (granted + 1) slab (given slab (granted + 1)).objects (given slab (granted + 1)).private
           (object_part slab (next_object slab) (Some (giver slab.private)) (Some (Object (grant_of (granted + 1)))) ∷ []) (Some (got slab.index slab.class (next_object slab) (granted + 1)))
           laid_slab few
@@ -154,7 +154,7 @@ object_granted state layout region granted slab laid_slab giving few knows =
 -- an object comes back
 pub record Freed (state : State) (layout : Layout) (region : Option Region) (granted : ℕ) (slab : OwnSlab) (object number : ℕ) : Type 0 where
   pub made : IsMade state (free_step slab object number).parts [] None
-  pub knows : Knows (after_entry state (free_step slab object number)) (laid layout slab.index 2 (OfSlab (taken_back slab object))) region granted
+  pub knows : Knows (after_turn state (free_step slab object number)) (laid layout slab.index 2 (OfSlab (taken_back slab object))) region granted
 
 pub object_back : (state : State) (layout : Layout) (region : Option Region) (granted : ℕ) (slab : OwnSlab) (object number : ℕ) → IsLaid layout slab → slice_get slab.objects object ≡ Some (Some number) →
     Knows state layout region granted → Freed state layout region granted slab object number

@@ -16,26 +16,34 @@ use Rattle.part_model.specs.Lawful.{is_lawful_pair}
 use Rattle.part_model.specs.Totals.{has_holder}
 use Rattle.part_model.proofs.CallerLemmas.{after_parts-at, lies_in-parts, lies_in-not, apart_before}
 use Rattle.list_laws.proofs.Members.{Contains-none}
-use Rattle.machine.specs.States.{State, Slab}
+use Rattle.machine.specs.States.{State, Slab, fixed_terms}
 use Rattle.machine.specs.Ranges.{Each, part_of, parts_of, slab_range, IsGranules, IsOffBook, IsSlabRoom}
-use Rattle.machine.specs.Regions.{coming_parts, IsNewRegion}
-use Rattle.machine.specs.Journal.{Entry, BookChange, Nothing_seen, is_object, after_entry}
+use Rattle.machine.specs.Regions.{IsNewRegion}
+use Rattle.machine.specs.Answers.{Call}
+use Rattle.machine.specs.Turns.{BeginSlabs}
+use Rattle.machine.specs.Journal.{Turn, BookChange, Nothing_seen, is_object, after_turn}
 use Rattle.machine.specs.Lawful.{IsLawful, region_comes, blocks_put, bins_taken, slab_stored, slab_fetched}
-use Rattle.machine.proofs.CallerLemmas.{each-map, each-parts_of, one_whole, each-all}
+use Rattle.machine.proofs.CallerLemmas.{first_number, first_gap, each-map, each-parts_of, one_whole, each-all}
 use Rattle.plain_lists.specs.Lists.{Block, lies_on, first_region}
 use Rattle.plain_lists.specs.Backend.{slab_block}
-use Rattle.plain_runs.specs.Steps.{fixed_terms, one_region, granule_place, block_range, step_of, blocks_step, store_step, fetch_step, come_step}
+use Rattle.plain_runs.specs.Steps.{one_region, granule_place, block_range, step_of, blocks_step, store_step, fetch_step, come_step}
 use Rattle.plain_runs.proofs.Layouts.{Use, Away, InBin, InHand, InCache, Layout, holder_in, held_by, laid, Knows}
 use Rattle.plain_runs.proofs.Moves.{granules_range, in_granules, moved_laid, is_plain, plain_no_slab, SameSlabs, same_laid, laid_plain, IsQuiet, none_any, knows_moved, granules_there, IsMade}
 
--- a step that ends no call and moves no object may be made
-pub record IsQuietStep (state : State) (entry : Entry) : Type 0 where
+-- a step that ends no call, moves no object, brings no region and begins no slab may be made
+pub record IsQuietStep (state : State) (turn : Turn) : Type 0 where
   pub parts : List Part
   pub book : List BookChange
-  pub region : Option RegionRec
-  pub is : entry ≡ step_of parts book region Nothing_seen None
-  pub made : IsMade state parts book region
+  pub is : turn ≡ step_of parts book None Nothing_seen None
+  pub made : IsMade state parts book None
   pub quiet : Each IsQuiet parts
+  pub slabs : (state : State) (call : Call) → BeginSlabs state call book
+
+-- A step that moves no object may be made, but for what its call asks of it. And what is known after it.
+pub record Does (state : State) (turn : Turn) (next : Layout) (region : Option Region) (granted : ℕ) : Type 0 where
+  pub made : IsMade state turn.parts turn.book turn.region
+  pub quiet : Each IsQuiet turn.parts
+  pub knows : Knows (after_turn state turn) next region granted
 
 -- the granules of several blocks go to a use
 abbrev pub laid_all : Layout → List Block → Use → Layout
@@ -150,9 +158,9 @@ pub quiet_stays : (parts : List Part) → Each IsQuiet parts → list_any (λ (p
 quiet_stays parts quiet = none_any (λ (part : Part). not (has_holder part.to)) parts (each-map IsQuiet (λ (part : Part). not (has_holder part.to) ≡ false) (λ part q. ap not q.stays) parts quiet)
 
 -- a step, and what is known after it
-pub record Leaves (state : State) (entry : Entry) (next : Layout) (region : Option Region) (granted : ℕ) : Type 0 where
-  pub step : IsQuietStep state entry
-  pub knows : Knows (after_entry state entry) next region granted
+pub record Leaves (state : State) (turn : Turn) (next : Layout) (region : Option Region) (granted : ℕ) : Type 0 where
+  pub step : IsQuietStep state turn
+  pub knows : Knows (after_turn state turn) next region granted
 
 -- blocks of one use go to another
 pub blocks_moved : (state : State) (layout : Layout) (region : Region) (granted : ℕ) (blocks : List Block) (old next : Use) (from to : Option Holder) →
@@ -168,7 +176,6 @@ blocks_moved state layout region granted blocks old next from to plain plain_nex
       step = record {
         parts = parts_of (map block_range blocks) from to;
         book = [];
-        region = None;
         is = refl;
         made = record {
           whole = each-all (λ (part : Part). IsWhole part.range) (parts_of (map block_range blocks) from to) (parts_whole blocks from to fit);
@@ -177,6 +184,7 @@ blocks_moved state layout region granted blocks old next from to plain plain_nex
           lawful = lawful;
         };
         quiet = still;
+        slabs = λ s call. tt;
       };
       knows = knows_moved state layout (laid_all layout blocks next) (Some region) granted (parts_of (map block_range blocks) from to) Nothing_seen None
           (quiet_to (parts_of (map block_range blocks) from to) still) (quiet_stays (parts_of (map block_range blocks) from to) still)
@@ -246,48 +254,36 @@ unshelf_step state layout region granted index even inside all knows =
 
 -- the first region can come
 pub first_can_come : (state : State) → state.regions ≡ [] → state.next ≡ 0 → IsNewRegion fixed_terms state one_region
-first_can_come state none next =
-    let empty : (region : RegionRec) → Contains state.regions region → ⊥ = λ region member. Contains-none region (subst (λ (rs : List RegionRec). Contains rs region) none member) in
-    record {
-      number = record {
-        unused = omega (arith, next);
-        free = λ region member. absurd (empty region member);
-        least = λ other least below. absurd (omega arith);
-      };
-      below = lit< tt;
-      only = λ fixed. next;
-      front = lit< tt;
-      aligned = refl;
-      inside = lit≤ tt;
-      ends = lit≤ tt;
-      most = inl refl;
-      right = λ some. refl;
-      within = lit< tt;
-      apart = λ other member. absurd (empty other member);
-      some = lit< tt;
-      lowest = λ room. omega arith;
-      longest = λ fewer indices longest. absurd (let none : 128 < 128 = fewer in omega arith);
-    }
+first_can_come state none next = record {
+  only = λ fixed. next;
+  number = first_number state none next;
+  placed = record {
+    aligned = record { least = lit< tt; multiple = refl };
+    placed = inl (record {
+      all = refl;
+      fits = record { even_or_odd = refl; gap = first_gap state 1024 129 none (lit≤ tt) };
+      lowest = λ start fits. omega arith;
+    });
+  };
+  apart = λ other member. absurd (Contains-none other (subst (λ (rs : List RegionRec). Contains rs other) none member));
+  some = lit< tt;
+  inside = lit≤ tt;
+  ends = lit≤ tt;
+}
 
 -- the region comes into the hand
 pub region_step : (state : State) (layout : Layout) (granted : ℕ) → ((g : ℕ) → layout g ≡ Away) → Knows state layout None granted →
-    Leaves state come_step (laid layout 0 128 InHand) (Some first_region) granted
+    Does state come_step (laid layout 0 128 InHand) (Some first_region) granted
 region_step state layout granted away knows =
     let same = same_laid layout 0 128 InHand refl (λ g on. ap is_plain (away g)) in
     record {
-      step = record {
-        parts = coming_parts 0 0 one_region;
-        book = [];
-        region = Some one_region;
-        is = refl;
-        made = record {
-          whole = one_whole (part_of (granules_range 0 128) None (Some (Hand 0))) (record { some = lit< tt; ends = lit≤ tt });
-          apart = (tt, tt);
-          there = (record { lawful = refl; there = granules_there state layout 0 128 Away None (λ offset. refl) knows.held_is (λ g on. away g) }, tt);
-          lawful = region_comes one_region (first_can_come state knows.regions_are knows.next_is);
-        };
-        quiet = (record { from = refl; to = refl; stays = refl; small = refl }, tt);
+      made = record {
+        whole = one_whole (part_of (granules_range 0 128) None (Some (Hand 0))) (record { some = lit< tt; ends = lit≤ tt });
+        apart = (tt, tt);
+        there = (record { lawful = refl; there = granules_there state layout 0 128 Away None (λ offset. refl) knows.held_is (λ g on. away g) }, tt);
+        lawful = region_comes one_region (first_can_come state knows.regions_are knows.next_is);
       };
+      quiet = (record { from = refl; to = refl; stays = refl; small = refl }, tt);
       knows = record {
         held_is = λ byte. after_parts-at state.held (held_by layout) (part_of (granules_range 0 128) None (Some (Hand 0)) ∷ []) byte (knows.held_is byte)
             ∙ moved_laid layout 0 128 None (Some (Hand 0)) InHand (λ offset. refl) byte;

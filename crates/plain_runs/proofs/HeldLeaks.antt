@@ -5,8 +5,6 @@ use Rattle.std.specs.Prelude.{Contains, slice_get, find, ◌==◌}
 use Rattle.std.specs.declared.option.Option.{Option}
 use Rattle.std.proofs.lemmas.Bool.{eqb-true, eq-eqb}
 use Rattle.pool_types.specs.declared.values.Leak.{Leak}
-use Rattle.part_model.specs.declared.holders.Holder.TheVariants.{Object}
-use Rattle.part_model.specs.Holding.{lies_in}
 use Rattle.part_model.proofs.CallerLemmas.{lies_in-is}
 use Rattle.size_classes.specs.Classes.{class_size, class_objects}
 use Rattle.machine.specs.States.{State}
@@ -20,10 +18,11 @@ use Rattle.list_laws.proofs.Finds.{find-Some, find-None}
 use Rattle.plain_lists.proofs.Beside.{beside_none}
 use Rattle.plain_lists.proofs.Within.{one_slab, slab_within}
 use Rattle.plain_lists.proofs.Granules.{lies_on-parts}
-use Rattle.plain_runs.specs.Leaks.{leak_range, AreFrom, AreLeaks}
+use Rattle.machine.specs.Answers.{IsObject}
+use Rattle.machine.specs.Leaks.{leak_range, AreFrom, AreLeaks}
 use Rattle.plain_runs.proofs.Layouts.{some_bytes, one_more}
 use Rattle.plain_runs.proofs.LaidOut.{Holds}
-use Rattle.plain_runs.proofs.Objects.{grant_byte, object_held}
+use Rattle.plain_runs.proofs.Objects.{grant_byte, object_is}
 
 -- an object of a slab that is held, as a leak
 abbrev pub held_leak : OwnSlab → ℕ → ℕ → Leak
@@ -169,12 +168,11 @@ from_within (suc rooms) index slabs few =
         (subst (λ n. AreWithin (8192 * slab.index + (16384 - (0 + length slab.objects) * class_size slab.class)) n (leaks_of slab 0 slab.objects)) high within)
 
 -- the leaks of the lists are the objects that are held
-pub leaks_are : (state : State) (lists : Lists) → Holds state lists → AreLeaks state.held (leaks_at lists)
+pub leaks_are : (state : State) (lists : Lists) → Holds state lists → AreLeaks state (leaks_at lists)
 leaks_are state lists holds = record {
-  each = λ leak member byte inside.
+  each = λ leak member.
       let found = leaks_from-member 64 0 lists.slabs leak member in
-      let P : Leak → Type 0 = λ l. lies_in byte (leak_range l) ≡ true → state.held byte ≡ Some (Object l.grant) in
-      subst P (sym found.is) (object_held state lists holds found.slab found.object found.number found.member found.held byte) inside;
+      subst (λ (l : Leak). IsObject state l.place l.usable l.grant) (sym found.is) (object_is state lists holds found.slab found.object found.number found.member found.held);
   all = λ byte grant is.
       let found = grant_byte state lists holds byte grant is in
       let even = (holds.good.slabs_are found.slab found.member).even in

@@ -12,20 +12,22 @@ use Rattle.pool_types.specs.declared.values.Answer.TheVariants.{Freed as FreedAn
 use Rattle.pool_types.specs.declared.values.Request.{Request}
 use Rattle.pool_types.specs.declared.values.Request.TheVariants.{Malloc, Aligned, Realloc, AlignedRealloc, Free, Msize, Identify, Exit}
 use Rattle.pool_types.specs.declared.policy.RegionRec.{RegionRec}
-use Rattle.machine.specs.States.{State, nothing_yet}
-use Rattle.machine.specs.Journal.{Entry}
-use Rattle.machine.specs.Runs.{Event, Makes, IsRunFrom, Progress, at_rest, after_events}
+use Rattle.machine.specs.States.{State, nothing_yet, fixed_terms}
+use Rattle.machine.specs.Journal.{Turn}
+use Rattle.machine.specs.Events.{Event, Makes, Progress, at_rest, after_events}
+use Rattle.machine.specs.Leaks.{AreLeaks}
+use Rattle.machine.specs.Callback.{no_script}
+use Rattle.machine.specs.Runs.{IsRunFrom, requests_in, answers_in, end_of}
 use Rattle.plain_lists.specs.Lists.{OwnSlab, Block, Lists, no_lists, first_region, has_free, taken_back, is_unused, changed, without}
 use Rattle.plain_lists.specs.Backend.{first_fit, after_put, after_puts, slab_block}
 use Rattle.plain_lists.specs.Whole.{Outcome, Spot, whole, IsServed, lists_after, answers_to, class_at, newest, begins_in, malloc_from, stored_room, block_room, region_room, spot_at, free_of, shelved, trimmed}
 use Rattle.plain_lists.proofs.Beside.{fresh_good}
 use Rattle.plain_lists.proofs.Calls.{whole_good}
 use Rattle.list_laws.proofs.Members.{Contains-none, Contains-single}
-use Rattle.plain_runs.specs.Steps.{fixed_terms, one_region, at_offset, steps_of, room_steps, block_steps, region_steps, room_index, block_index, region_index, malloc_steps_of, free_step, free_steps, shelf_steps, still_step, trim_steps, puts_steps}
-use Rattle.plain_runs.specs.Journal.{events_to, requests_in, answers_in, end_of}
+use Rattle.plain_runs.specs.Steps.{one_region, at_offset, steps_of, room_steps, block_steps, region_steps, room_index, block_index, region_index, malloc_steps_of, free_step, free_steps, shelf_steps, still_step, trim_steps, puts_steps}
+use Rattle.plain_runs.specs.Journal.{events_to}
 use Rattle.part_model.specs.Totals.{totals_of}
 use Rattle.plain_lists.specs.Held.{leaks_at}
-use Rattle.plain_runs.specs.Leaks.{AreLeaks}
 use Rattle.plain_runs.proofs.HeldTotals.{totals_hold}
 use Rattle.plain_runs.proofs.HeldLeaks.{leaks_are}
 use Rattle.plain_runs.specs.Laws.{WholeCallsRun, WholeCallsHold}
@@ -36,6 +38,8 @@ use Rattle.plain_runs.proofs.LaidOut.{Holds}
 use Rattle.plain_runs.proofs.MallocRuns.{WholeRuns, malloc_runs, steps_with, steps_are}
 use Rattle.plain_runs.proofs.LookRuns.{msize_runs, identify_runs}
 use Rattle.plain_runs.proofs.FreeRuns.{free_runs}
+use Rattle.plain_runs.proofs.RawCalls.{raw_follows}
+use Rattle.plain_runs.proofs.CallEnds.{calls_end, calls_alone}
 
 -- a whole call
 pub whole_runs : (state : State) (lists : Lists) (request : Request) → IsServed request → lists.granted < 2 ^ 55 - 1 → Holds state lists → WholeRuns state request (steps_of lists request) (whole lists request).lists
@@ -70,6 +74,7 @@ nothing_holds = record {
     away = λ g off. refl;
   };
   good = fresh_good;
+  blocks = λ range member. absurd (Contains-none range member);
 }
   where
     by_test : (byte : Place) → None ≡ held_by (λ granule. Away) byte
@@ -144,7 +149,7 @@ journal_runs state lists (request ∷ requests) served room holds =
     }
 
 -- what the steps of a call ask and answer
-steps-requests : (steps : List Entry) (events : List Event) → requests_in (map Makes steps ++ events) ≡ requests_in events
+steps-requests : (steps : List Turn) (events : List Event) → requests_in (map Makes steps ++ events) ≡ requests_in events
 steps-requests [] events = refl
 steps-requests (step ∷ steps) events = steps-requests steps events
 
@@ -154,11 +159,11 @@ requests_in-events lists (request ∷ requests) =
     ap (λ (rs : List Request). request ∷ rs) (steps-requests (steps_of lists request) (events_to (whole lists request).lists requests) ∙ requests_in-events (whole lists request).lists requests)
 
 -- steps that answer nothing
-puts-silent : (indices : List ℕ) (blocks : List Block) (rest : List Entry) (events : List Event) → answers_in (map Makes (puts_steps indices blocks ++ rest) ++ events) ≡ answers_in (map Makes rest ++ events)
+puts-silent : (indices : List ℕ) (blocks : List Block) (rest : List Turn) (events : List Event) → answers_in (map Makes (puts_steps indices blocks ++ rest) ++ events) ≡ answers_in (map Makes rest ++ events)
 puts-silent [] blocks rest events = refl
 puts-silent (index ∷ indices) blocks rest events = puts-silent indices (after_put (slab_block index) blocks) rest events
 
-trim-silent : (stored : List ℕ) (blocks : List Block) (rest : List Entry) (events : List Event) → answers_in (map Makes (trim_steps stored blocks ++ rest) ++ events) ≡ answers_in (map Makes rest ++ events)
+trim-silent : (stored : List ℕ) (blocks : List Block) (rest : List Turn) (events : List Event) → answers_in (map Makes (trim_steps stored blocks ++ rest) ++ events) ≡ answers_in (map Makes rest ++ events)
 trim-silent stored blocks rest events = go (nat_le 33 (length stored))
   where
     go : (b : Bool) → answers_in (map Makes ((if b then puts_steps (take 25 stored) blocks else []) ++ rest) ++ events) ≡ answers_in (map Makes rest ++ events)
@@ -169,7 +174,7 @@ trim-silent stored blocks rest events = go (nat_le 33 (length stored))
 steps-answers : (lists : Lists) (request : Request) (events : List Event) → answers_in (map Makes (steps_of lists request) ++ events) ≡ (whole lists request).answer ∷ answers_in events
 steps-answers lists (Malloc size) events = by_slab (find (has_free (class_at size)) lists.slabs)
   where
-    Answers : List Entry → Outcome → Type 0
+    Answers : List Turn → Outcome → Type 0
     Answers steps outcome = answers_in (map Makes steps ++ events) ≡ outcome.answer ∷ answers_in events
 
     by_region : (region : Option Region) → Answers (steps_with lists (class_at size) (region_steps region) (region_index region)) (begins_in lists (class_at size) (region_room lists region))
@@ -223,8 +228,11 @@ whole_calls_run requests served few =
     let runs = journal_runs nothing_yet no_lists requests served (omega arith) nothing_holds in
     record {
       run = (record { valid = refl; supported = refl; limits_in = ((refl, refl, refl), refl) }, runs.run);
+      calls = calls_alone no_lists requests;
+      ends = calls_end no_lists requests;
       asked = requests_in-events no_lists requests;
       answered = answers_in-events no_lists requests;
+      raw = raw_follows no_lists requests no_script refl;
       regions = λ region member. regions_first (lists_after no_lists requests).region region
           (subst (λ (rs : List RegionRec). Contains rs region) (ap (λ (p : Progress). p.state.regions) runs.ends ∙ runs.holds.knows.regions_are) member);
     }
@@ -233,8 +241,8 @@ whole_calls_run requests served few =
 pub whole_calls_hold : WholeCallsHold
 whole_calls_hold requests served few =
     let runs = journal_runs nothing_yet no_lists requests served (omega arith) nothing_holds in
-    let same : (end_of (events_to no_lists requests)).held ≡ runs.next.held = ap (λ (p : Progress). p.state.held) runs.ends in
+    let same : end_of (events_to no_lists requests) ≡ runs.next = ap (λ (p : Progress). p.state) runs.ends in
     record {
-      totals = ap totals_of same ∙ totals_hold runs.next (lists_after no_lists requests) runs.holds;
-      leaks = subst (λ held. AreLeaks held (leaks_at (lists_after no_lists requests))) (sym same) (leaks_are runs.next (lists_after no_lists requests) runs.holds);
+      totals = ap (λ (s : State). totals_of s.held) same ∙ totals_hold runs.next (lists_after no_lists requests) runs.holds;
+      leaks = subst (λ s. AreLeaks s (leaks_at (lists_after no_lists requests))) (sym same) (leaks_are runs.next (lists_after no_lists requests) runs.holds);
     }

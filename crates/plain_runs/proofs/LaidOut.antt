@@ -8,6 +8,7 @@ use Rattle.machine.specs.States.{State}
 use Rattle.plain_lists.specs.Lists.{OwnSlab, Block, Lists, lies_on, begun, changed}
 use Rattle.plain_lists.specs.Good.{AreGood, has_granule, slabs_on, stored_on, blocks_on}
 use Rattle.list_laws.proofs.Members.{Contains-cons, Contains-map}
+use Rattle.plain_runs.proofs.Bins.{BlocksIn}
 use Rattle.plain_runs.proofs.Layouts.{Use, Away, InBin, InHand, InCache, OfSlab, Layout, laid, Knows}
 use Rattle.plain_runs.proofs.Moves.{laid-inside, laid-other, plain_no_slab}
 use Rattle.plain_runs.proofs.ObjectSteps.{same_slab, with_objects}
@@ -25,6 +26,7 @@ pub record Holds (state : State) (lists : Lists) : Type 0 where
   pub knows : Knows state layout lists.region lists.granted
   pub lays : Lays lists layout
   pub good : AreGood lists
+  pub blocks : BlocksIn state lists.blocks
 
 -- what a granule is used for
 pub data UseOf (lists : Lists) (layout : Layout) (g : ℕ) : Type 0 where

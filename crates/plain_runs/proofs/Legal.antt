@@ -7,6 +7,7 @@ use Rattle.std.proofs.lemmas.Bool.{cases_lt, cases_Bool}
 use Rattle.pool_types.specs.declared.values.Place.{Place}
 use Rattle.pool_types.specs.declared.values.Request.TheVariants.{Malloc}
 use Rattle.pool_types.specs.declared.policy.RegionRec.{RegionRec}
+use Rattle.pool_types.specs.declared.values.Region.{Region}
 use Rattle.pool_types.specs.declared.rows.Keeper.{Keeper}
 use Rattle.pool_types.specs.declared.rows.Keeper.TheVariants.{Seat, Orphan, Hand as InKeep}
 use Rattle.part_model.specs.declared.holders.Holder.{Holder}
@@ -15,16 +16,17 @@ use Rattle.part_model.specs.Holding.{same_region}
 use Rattle.size_classes.specs.Classes.{class_size, class_objects, class_of}
 use Rattle.size_classes.proofs.CallerLemmas.{class_size-least, class_of-found, object_offset-eights, object_offset-sixteens}
 use Rattle.size_classes.specs.Layout.{head_bytes}
-use Rattle.machine.specs.States.{State, Slab}
+use Rattle.machine.specs.States.{State, Slab, fixed_terms}
 use Rattle.machine.specs.Lawful.{IsKept}
 use Rattle.machine.specs.Suits.{Suits}
 use Rattle.machine.specs.Looks.{NoneWaits}
 use Rattle.machine.specs.Answers.{NoneIsKept}
+use Rattle.machine.specs.Turns.{Adjoins, IsCalm}
 use Rattle.machine.proofs.CallerLemmas.{plain_aligned, enough_usable}
-use Rattle.plain_lists.specs.Lists.{OwnSlab, Lists}
+use Rattle.plain_lists.specs.Lists.{OwnSlab, Block, Lists}
 use Rattle.plain_lists.specs.Whole.{place_at}
-use Rattle.plain_runs.specs.Steps.{fixed_terms, one_region, at_offset}
-use Rattle.plain_runs.proofs.Layouts.{Use, Away, InBin, InCache, OfSlab, held_as, object_with, slab_holder, holder_in, some_bytes, one_more, slab_holder-head, slab_holder-behind}
+use Rattle.plain_runs.specs.Steps.{one_region, at_offset, block_range}
+use Rattle.plain_runs.proofs.Layouts.{Use, Away, InBin, InHand, InCache, OfSlab, Layout, held_as, object_with, slab_holder, holder_in, held_by, Knows, some_bytes, one_more, slab_holder-head, slab_holder-behind}
 use Rattle.plain_runs.proofs.ObjectSteps.{held_by-in, held_by-out}
 use Rattle.plain_runs.proofs.LaidOut.{Holds, UseOf, none_has, slab_has, stored_has, block_has, use_of}
 
@@ -83,16 +85,66 @@ kept_by_seat state lists holds keeper slab kept =
     let booked = holds.knows.in_book slab kept.0 in
     sym kept.1 ∙ ap (λ (s : Slab). s.keeper) booked.is
 
--- so none is in hand, and none is an orphan
+-- no slab of the book is an orphan
+pub no_orphan : (state : State) (layout : Layout) (region : Option Region) (granted : ℕ) (slab : Slab) → Knows state layout region granted → IsKept state Orphan slab → ⊥
+no_orphan state layout region granted slab knows kept =
+    let booked = knows.in_book slab kept.0 in
+    let clash : Orphan ≡ Seat 0 = sym kept.1 ∙ ap (λ (s : Slab). s.keeper) booked.is in cc
+
+-- none is in hand
 pub none_in_hand : (state : State) (lists : Lists) → Holds state lists → (slab : Slab) → IsKept state (InKeep 0) slab → ⊥
 none_in_hand state lists holds slab kept = let clash : InKeep 0 ≡ Seat 0 = kept_by_seat state lists holds (InKeep 0) slab kept in cc
 
+-- no byte of a layout is public
+laid_no_public : (layout : Layout) (byte : Place) → held_by layout byte ≢ Some Public
+laid_no_public layout byte is = elim (cases_Bool (same_region byte (at_offset 0))) [
+  | inl region ↦ let clash : false ≡ true = sym (by_use (layout (byte.offset / 8192))) ∙ ap is_public (sym (held_by-in layout byte (layout (byte.offset / 8192)) region refl) ∙ is) in cc
+  | inr other ↦ let clash : None ≡ Some Public = sym (held_by-out layout byte other) ∙ is in cc
+]
+  where
+    is_public : Option Holder → Bool
+    is_public (Some Public) = true
+    is_public holder = false
+
+    by_slab : (slab : OwnSlab) (within : ℕ) → is_public (slab_holder slab within) ≡ false
+    by_slab slab within = elim (cases_lt within (head_bytes slab.class)) [
+      | inl head ↦ ap is_public (slab_holder-head slab within head)
+      | inr behind ↦ ap is_public (slab_holder-behind slab within behind) ∙ by_object (slice_get slab.objects (object_with slab.class within))
+    ]
+      where
+        by_object : (got : Option (Option ℕ)) → is_public (held_as got) ≡ false
+        by_object None = refl
+        by_object (Some None) = refl
+        by_object (Some (Some number)) = refl
+
+    by_use : (use' : Use) → is_public (holder_in use' byte.offset) ≡ false
+    by_use Away = refl
+    by_use InBin = refl
+    by_use InHand = refl
+    by_use InCache = refl
+    by_use (OfSlab slab) = by_slab slab (byte.offset - 8192 * slab.index)
+
 -- nothing waits to be taken back or adopted
-pub none_waits : (state : State) (lists : Lists) (class : ℕ) → Holds state lists → NoneWaits state 0 class
-none_waits state lists class holds = record {
-  public = λ byte own. never state lists holds (Some Public) refl byte;
-  orphan = λ slab kept. let clash : Orphan ≡ Seat 0 = kept_by_seat state lists holds Orphan slab kept.0 in cc;
+pub none_waits : (state : State) (layout : Layout) (region : Option Region) (granted class : ℕ) → Knows state layout region granted → NoneWaits state 0 class
+none_waits state layout region granted class knows = record {
+  public = λ byte own is. laid_no_public layout byte (sym (knows.held_is byte) ∙ is);
+  orphan = λ slab kept. no_orphan state layout region granted slab knows kept.0;
 }
+
+-- a pool between two calls is calm
+pub calm_pool : (state : State) (lists : Lists) (untouched : List ℕ) → Holds state lists → IsCalm fixed_terms state untouched
+calm_pool state lists untouched holds = record {
+  queue = never state lists holds (Some Queue) refl;
+  joined = λ one other in_one in_other adjoins.
+      let first = holds.blocks one in_one in
+      let second = holds.blocks other in_other in
+      apart first.0 second.0 first.1 second.1 (subst (λ r. Adjoins r (block_range second.0)) first.2 (subst (λ r. Adjoins one r) second.2 adjoins));
+  given = λ gives. absurd (let clash : true ≡ false = gives in cc);
+}
+  where
+    apart : (one other : Block) → Contains lists.blocks one → Contains lists.blocks other → Adjoins (block_range one) (block_range other) → ⊥
+    apart one other in_one in_other (region, inl ends) = holds.good.parted one other in_one in_other (omega (arith, ends))
+    apart one other in_one in_other (region, inr ends) = holds.good.parted other one in_other in_one (omega (arith, ends))
 
 -- the smallest class
 class_size-first : class_size 0 ≡ 8

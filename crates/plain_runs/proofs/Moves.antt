@@ -15,13 +15,13 @@ use Rattle.part_model.specs.declared.moves.Part.{Part}
 use Rattle.part_model.specs.Holding.{same_region, lies_in, after_part, after_parts, AreWhole, AreApart, CanMoveAll}
 use Rattle.part_model.specs.Totals.{has_holder}
 use Rattle.part_model.proofs.CallerLemmas.{after_parts-at, lies_in-parts}
-use Rattle.machine.specs.States.{State}
+use Rattle.machine.specs.States.{State, fixed_terms}
 use Rattle.machine.specs.Ranges.{Each, part_of, range_at}
-use Rattle.machine.specs.Journal.{Sight, BookChange, is_object, after_entry, goes}
-use Rattle.machine.specs.Runs.{makes_large}
+use Rattle.machine.specs.Journal.{Sight, BookChange, is_object, after_turn, goes}
+use Rattle.machine.specs.Cleaning.{is_large}
 use Rattle.machine.specs.Lawful.{IsLawful}
 use Rattle.plain_lists.specs.Lists.{OwnSlab, lies_on}
-use Rattle.plain_runs.specs.Steps.{fixed_terms, at_offset, step_of}
+use Rattle.plain_runs.specs.Steps.{at_offset, step_of}
 use Rattle.plain_runs.proofs.Layouts.{Use, Away, InBin, InHand, InCache, OfSlab, Layout, holder_in, held_by, laid, Knows}
 
 -- a range of whole granules
@@ -107,7 +107,7 @@ pub record IsQuiet (part : Part) : Type 0 where
   pub from : is_object part.from ≡ false
   pub to : is_object part.to ≡ false
   pub stays : has_holder part.to ≡ true
-  pub small : makes_large part ≡ false
+  pub small : is_large part ≡ false
 
 -- a test that no member passes
 pub none_any : {X : Type 0} → (test : X → Bool) (xs : List X) → Each (λ x. test x ≡ false) xs → list_any test xs ≡ false
@@ -122,7 +122,7 @@ none_any test (x ∷ xs) (first, rest) = both (test x) (list_any test xs) first 
 pub knows_moved : (state : State) (layout next : Layout) (region : Option Region) (granted : ℕ) (parts : List Part) (seen : Sight) (answer : Option Answer) →
     list_any (λ (part : Part). is_object part.to) parts ≡ false → list_any (λ (part : Part). not (has_holder part.to)) parts ≡ false →
     ((byte : Place) → after_parts (held_by layout) parts byte ≡ held_by next byte) → SameSlabs layout next →
-    Knows state layout region granted → Knows (after_entry state (step_of parts [] None seen answer)) next region granted
+    Knows state layout region granted → Knows (after_turn state (step_of parts [] None seen answer)) next region granted
 knows_moved state layout next region granted parts seen answer no_object none_leaves moved same knows = record {
   held_is = λ byte. after_parts-at state.held (held_by layout) parts byte (knows.held_is byte) ∙ moved byte;
   regions_are = ap (λ (b : Bool). if b then filter (λ r. not (goes parts r)) state.regions else state.regions) none_leaves ∙ knows.regions_are;

@@ -18,7 +18,7 @@ use Rattle.size_classes.proofs.CallerLemmas.{class_size-least}
 use Rattle.size_classes.specs.Layout.{head_bytes}
 use Rattle.machine.specs.States.{State, Slab}
 use Rattle.machine.specs.Ranges.{part_of, object_range}
-use Rattle.machine.specs.Journal.{Nothing_seen, after_entry, last_after, goes}
+use Rattle.machine.specs.Journal.{Nothing_seen, after_turn, last_after, goes}
 use Rattle.plain_lists.specs.Lists.{OwnSlab, lies_on}
 use Rattle.plain_lists.proofs.Granules.{lies_on-parts}
 use Rattle.plain_runs.specs.Steps.{at_offset, slab_of, step_of}
@@ -145,7 +145,7 @@ pub knows_changed : (state : State) (layout : Layout) (region : Option Region) (
     IsLaid layout slab → length objects ≤ class_objects slab.class →
     ((byte : Place) → after_parts (held_by layout) parts byte ≡ held_by (laid layout slab.index 2 (OfSlab (with_objects slab objects private))) byte) →
     list_any (λ (part : Part). not (has_holder part.to)) parts ≡ false → last_after state.last 0 parts 0 ≡ granted' → Knows state layout region granted →
-    Knows (after_entry state (step_of parts [] None Nothing_seen answer)) (laid layout slab.index 2 (OfSlab (with_objects slab objects private))) region granted'
+    Knows (after_turn state (step_of parts [] None Nothing_seen answer)) (laid layout slab.index 2 (OfSlab (with_objects slab objects private))) region granted'
 knows_changed state layout region granted granted' slab objects private parts answer laid_slab few moved none_leaves last knows = record {
   held_is = λ byte. after_parts-at state.held (held_by layout) parts byte (knows.held_is byte) ∙ moved byte;
   regions_are = ap (λ (b : Bool). if b then filter (λ r. not (goes parts r)) state.regions else state.regions) none_leaves ∙ knows.regions_are;

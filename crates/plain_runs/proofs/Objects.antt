@@ -15,7 +15,7 @@ use Rattle.part_model.proofs.CallerLemmas.{lies_in-is, lies_in-parts, same_regio
 use Rattle.size_classes.specs.Classes.{class_size, class_objects}
 use Rattle.size_classes.proofs.CallerLemmas.{class_size-least}
 use Rattle.size_classes.specs.Layout.{head_bytes}
-use Rattle.machine.specs.States.{State}
+use Rattle.machine.specs.States.{State, fixed_terms}
 use Rattle.machine.specs.Answers.{BeginsAt, IsObject, IsUnit}
 use Rattle.plain_lists.specs.Lists.{OwnSlab, Lists, lies_on}
 use Rattle.plain_lists.specs.Whole.{Spot, grant_of, place_at, spot_at, is_unit}
@@ -24,7 +24,7 @@ use Rattle.list_laws.proofs.Members.{Contains-none, Contains-single}
 use Rattle.plain_lists.proofs.Beside.{beside_none}
 use Rattle.plain_lists.proofs.ObjectPlaces.{held_found}
 use Rattle.plain_lists.proofs.Granules.{lies_on-parts}
-use Rattle.plain_runs.specs.Steps.{fixed_terms, one_region, at_offset}
+use Rattle.plain_runs.specs.Steps.{one_region, at_offset}
 use Rattle.plain_runs.proofs.Layouts.{Use, Away, InBin, InCache, OfSlab, regions_of, held_as, object_with, holder_in, IsLaid, HasByteOf, object_with-has, slab_holder-head, slab_holder-behind}
 use Rattle.plain_runs.proofs.ObjectSteps.{on_slab, held_by-in, held_by-out, own_range, object_there}
 use Rattle.plain_runs.proofs.LaidOut.{Holds, UseOf, none_has, slab_has, stored_has, block_has, use_of}

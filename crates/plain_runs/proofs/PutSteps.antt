@@ -7,7 +7,7 @@ use Rattle.pool_types.specs.declared.values.Region.{Region}
 use Rattle.part_model.specs.declared.holders.Holder.TheVariants.{Bin, Hand}
 use Rattle.machine.specs.States.{State}
 use Rattle.machine.specs.Ranges.{Each}
-use Rattle.machine.specs.Journal.{Entry, after_entry, after_entries}
+use Rattle.machine.specs.Journal.{Turn, after_turn, after_turns}
 use Rattle.machine.proofs.CallerLemmas.{each-append}
 use Rattle.plain_lists.specs.Lists.{Block, Lists, lies_on}
 use Rattle.plain_lists.specs.Backend.{meets, joined, block_before, block_behind, joined_first, granules_in, after_put, after_puts, slab_block}
@@ -24,9 +24,11 @@ use Rattle.plain_runs.proofs.Layouts.{Use, Away, InBin, InHand, InCache, OfSlab,
 use Rattle.plain_runs.proofs.Moves.{laid-inside, laid-outside, laid-other, plain_no_slab}
 use Rattle.plain_runs.proofs.GranuleSteps.{IsAll, IsRegionBlock, IsRow, laid_all, bins_step, put_step, unshelf_step}
 use Rattle.plain_runs.proofs.ObjectSteps.{on_slab}
-use Rattle.plain_runs.proofs.Courses.{AreQuiet, quiet_append, after_entries-append}
+use Rattle.plain_runs.proofs.Courses.{AreQuiet, quiet_append, after_turns-append}
 use Rattle.plain_runs.proofs.LaidOut.{Lays}
 use Rattle.plain_runs.proofs.RoomSteps.{stored_apart}
+use Rattle.plain_runs.proofs.Bins.{BlocksIn, blocks_stay, blocks_put}
+use Rattle.plain_lists.proofs.BlockChanges.{blocks_good}
 
 -- granules that have the use already keep it, those of the blocks get it, and others keep theirs
 pub laid_all-keep : (layout : Layout) (blocks : List Block) (use' : Use) (g : ℕ) → layout g ≡ use' → laid_all layout blocks use' g ≡ use'
@@ -162,23 +164,25 @@ neighbours_laid index rooms lists layout good lays = record {
     fits one member = record { some = (good.blocks_are one member).some; inside = (block_within rooms lists good one member).1 }
 
 -- room was put
-pub record IsPut (state : State) (lists : Lists) (region : Region) (entries : List Entry) : Type 0 where
+pub record IsPut (state : State) (lists : Lists) (region : Region) (turns : List Turn) : Type 0 where
   pub layout : Layout
-  pub quiet : AreQuiet state entries
-  pub knows : Knows (after_entries state entries) layout (Some region) lists.granted
+  pub quiet : AreQuiet state turns
+  pub knows : Knows (after_turns state turns) layout (Some region) lists.granted
   pub lays : Lays lists layout
+  pub blocks : BlocksIn (after_turns state turns) lists.blocks
 
 -- room in hand is put into bins
 pub room_put : (index : ℕ) (state : State) (lists : Lists) (layout : Layout) (region : Region) → AreGoodBeside (index ∷ []) lists → Lays lists layout → ((g : ℕ) → lies_on index 2 g ≡ true → layout g ≡ InHand) →
-    Knows state layout (Some region) lists.granted → IsPut state (record lists { blocks = after_put (slab_block index) lists.blocks }) region (put_steps (slab_block index) lists.blocks)
-room_put index state lists layout region good lays hand knows =
+    Knows state layout (Some region) lists.granted → BlocksIn state lists.blocks → IsPut state (record lists { blocks = after_put (slab_block index) lists.blocks }) region (put_steps (slab_block index) lists.blocks)
+room_put index state lists layout region good lays hand knows bins =
     let near = neighbours_laid index (index ∷ []) lists layout good lays in
     let took = bins_step state layout region lists.granted blocks near.fit near.row near.all knows in
-    let put = put_step (after_entry state (blocks_step blocks Bin (Hand 0))) taken region lists.granted whole fits all_in_hand took.knows in
+    let put = put_step (after_turn state (blocks_step blocks Bin (Hand 0))) taken region lists.granted whole fits all_in_hand took.knows in
     record {
       layout = laid taken whole.first whole.granules InBin;
       quiet = (took.step, (put.step, tt));
       knows = put.knows;
+      blocks = blocks_put state lists.blocks index (blocks_good (index ∷ []) lists good) bins;
       lays = record {
         slabs_are = λ slab member g on. kept g (OfSlab slab) (lays.slabs_are slab member g on) (plain_no_slab InBin slab refl) (plain_no_slab InHand slab refl);
         stored_are = λ other member g on. kept g InCache (lays.stored_are other member g on) (λ same. let e = same in cc) (λ same. let e = same in cc);
@@ -240,9 +244,9 @@ room_put index state lists layout region good lays hand knows =
 -- slabs of the slab cache are fetched and put, one after another
 pub slabs_put : (indices kept : List ℕ) (state : State) (base : Lists) (blocks : List Block) (layout : Layout) (region : Region) →
     AreGoodBeside [] (record base { stored = indices ++ kept; blocks = blocks }) → Lays (record base { stored = indices ++ kept; blocks = blocks }) layout →
-    Knows state layout (Some region) base.granted → IsPut state (record base { stored = kept; blocks = after_puts indices blocks }) region (puts_steps indices blocks)
-slabs_put [] kept state base blocks layout region good lays knows = record { layout = layout; quiet = tt; knows = knows; lays = lays }
-slabs_put (index ∷ indices) kept state base blocks layout region good lays knows =
+    Knows state layout (Some region) base.granted → BlocksIn state blocks → IsPut state (record base { stored = kept; blocks = after_puts indices blocks }) region (puts_steps indices blocks)
+slabs_put [] kept state base blocks layout region good lays knows bins = record { layout = layout; quiet = tt; knows = knows; lays = lays; blocks = bins }
+slabs_put (index ∷ indices) kept state base blocks layout region good lays knows bins =
     let more : List ℕ = indices ++ kept in
     let all : (g : ℕ) → lies_on index 2 g ≡ true → layout g ≡ InCache = lays.stored_are index (Contains-first index (indices ++ kept)) in
     let inside = (stored_within [] (record base { stored = index ∷ indices ++ kept; blocks = blocks }) good index (Contains-first index (indices ++ kept))).1 in
@@ -256,13 +260,15 @@ slabs_put (index ∷ indices) kept state base blocks layout region good lays kno
       blocks_are = λ block member g on. laid-other layout index 2 InCache InHand InBin g all (lays.blocks_are block member g on) (λ same. let e = same in cc);
       away = λ g off. laid-other layout index 2 InCache InHand Away g all (lays.away g off) (λ same. let e = same in cc);
     } in
-    let put = room_put index (after_entry state (fetch_step index)) (record base { stored = indices ++ kept; blocks = blocks }) (laid layout index 2 InHand) region beside fetched_lays (λ g on. laid-inside layout index 2 InHand g on) fetched.knows in
-    let next_state : State = after_entries (after_entry state (fetch_step index)) (put_steps (slab_block index) blocks) in
-    let later = slabs_put indices kept (after_entries (after_entry state (fetch_step index)) (put_steps (slab_block index) blocks)) base (after_put (slab_block index) blocks) put.layout region
-    (oldest_put index (indices ++ kept) [] (record base { stored = index ∷ indices ++ kept; blocks = blocks }) good) put.lays put.knows in
+    let put = room_put index (after_turn state (fetch_step index)) (record base { stored = indices ++ kept; blocks = blocks }) (laid layout index 2 InHand) region beside fetched_lays (λ g on. laid-inside layout index 2 InHand g on) fetched.knows
+    (blocks_stay state (fetch_step index) blocks (record { from = refl; to = refl }, tt) bins) in
+    let next_state : State = after_turns (after_turn state (fetch_step index)) (put_steps (slab_block index) blocks) in
+    let later = slabs_put indices kept (after_turns (after_turn state (fetch_step index)) (put_steps (slab_block index) blocks)) base (after_put (slab_block index) blocks) put.layout region
+    (oldest_put index (indices ++ kept) [] (record base { stored = index ∷ indices ++ kept; blocks = blocks }) good) put.lays put.knows put.blocks in
     record {
       layout = later.layout;
-      quiet = (fetched.step, quiet_append (after_entry state (fetch_step index)) (put_steps (slab_block index) blocks) (puts_steps indices (after_put (slab_block index) blocks)) put.quiet later.quiet);
-      knows = subst (λ s. Knows s later.layout (Some region) base.granted) (sym (after_entries-append (after_entry state (fetch_step index)) (put_steps (slab_block index) blocks) (puts_steps indices (after_put (slab_block index) blocks)))) later.knows;
+      quiet = (fetched.step, quiet_append (after_turn state (fetch_step index)) (put_steps (slab_block index) blocks) (puts_steps indices (after_put (slab_block index) blocks)) put.quiet later.quiet);
+      blocks = subst (λ s. BlocksIn s (after_puts indices (after_put (slab_block index) blocks))) (sym (after_turns-append (after_turn state (fetch_step index)) (put_steps (slab_block index) blocks) (puts_steps indices (after_put (slab_block index) blocks)))) later.blocks;
+      knows = subst (λ s. Knows s later.layout (Some region) base.granted) (sym (after_turns-append (after_turn state (fetch_step index)) (put_steps (slab_block index) blocks) (puts_steps indices (after_put (slab_block index) blocks)))) later.knows;
       lays = later.lays;
     }

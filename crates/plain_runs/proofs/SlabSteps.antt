@@ -1,5 +1,5 @@
 -- The steps with which a slab begins and ends.
-use Rattle.std.proofs.Common.{◌≡◌, ◌≢◌, ℕ, ◌+◌, ◌-◌, ◌*◌, ◌/◌, ◌%◌, ◌<◌, ◌≤◌, Bool, true, false, ◌&&◌, ◌||◌, List, [], ◌∷◌, ◌++◌, length, Some, None, refl, sym, ◌∙◌, ap, arith, inl, inr, subst, nat_lt, nat_le}
+use Rattle.std.proofs.Common.{◌≡◌, ◌≢◌, ℕ, ◌+◌, ◌-◌, ◌*◌, ◌/◌, ◌%◌, ◌<◌, ◌≤◌, Bool, true, false, ◌&&◌, ◌||◌, List, [], ◌∷◌, ◌++◌, length, Some, refl, sym, ◌∙◌, ap, arith, inl, inr, subst, nat_lt, nat_le}
 use Rattle.std.specs.Prelude.{if◌then◌else◌, Contains, ◌==◌}
 use Rattle.std.specs.declared.option.Option.{Option}
 use Rattle.std.proofs.lemmas.Bool.{cases_Bool, cases_lt, and_from, le-leb, lt-ltb, eqb-false, false_from_ne_true}
@@ -20,7 +20,6 @@ use Rattle.size_classes.specs.Layout.{head_bytes}
 use Rattle.machine.specs.States.{State}
 use Rattle.machine.specs.Ranges.{Each, part_of, head_range, objects_range, lies_in_parts}
 use Rattle.machine.specs.Regions.{some_part}
-use Rattle.machine.specs.Journal.{Enters}
 use Rattle.machine.specs.Lawful.{slab_begins}
 use Rattle.machine.proofs.CallerLemmas.{each-append, each-some_part, two_apart, two_whole, lies_within, lies_in_any-some_part, lies_in_any-append}
 use Rattle.plain_lists.specs.Lists.{OwnSlab, lies_on, begun}
@@ -29,7 +28,7 @@ use Rattle.plain_lists.proofs.Granules.{lies_on-parts}
 use Rattle.plain_runs.specs.Steps.{at_offset, granule_place, slab_of, begin_step, rest_range, handed_range}
 use Rattle.plain_runs.proofs.Layouts.{Use, InHand, OfSlab, Layout, slab_holder, held_by, laid, IsLaid, Knows, slab_holder-head, slab_holder-behind}
 use Rattle.plain_runs.proofs.Moves.{granules_range, is_plain, plain_no_slab, laid-inside, laid-outside, granules_there}
-use Rattle.plain_runs.proofs.GranuleSteps.{Leaves, IsAll, slab_room}
+use Rattle.plain_runs.proofs.GranuleSteps.{Does, IsAll, slab_room}
 use Rattle.plain_runs.proofs.ObjectSteps.{held_by-in, held_by-out, held_by-same, on_slab, same_slab}
 
 -- a byte of another region, or of a granule outside, lies in no range within
@@ -107,28 +106,22 @@ laid_elsewhere layout first granules old next slab all other laid_slab = record 
 
 -- a slab begins with what is in hand
 pub slab_begun : (state : State) (layout : Layout) (region : Region) (granted index class : ℕ) → class < 26 → index % 2 ≡ 0 → index + 2 ≤ 128 → IsAll layout InHand (slab_block index) →
-    Knows state layout (Some region) granted → Leaves state (begin_step index class) (laid layout index 2 (OfSlab (begun index class))) (Some region) granted
+    Knows state layout (Some region) granted → Does state (begin_step index class) (laid layout index 2 (OfSlab (begun index class))) (Some region) granted
 slab_begun state layout region granted index class class_is even inside all knows =
     let fit : class_objects class * class_size class ≤ 16256 = class_objects-fit class in
     let two : 2 * class_size class ≤ class_objects class * class_size class = mul-le-mul_right (class_size class) (class_objects-least class class_is) in
     let least : 8 ≤ class_size class = class_size-least class class_is in
     record {
-      step = record {
-        parts = begin_head index class ∷ begin_rest index class ∷ [];
-        book = Enters (slab_of index class) ∷ [];
-        region = None;
-        is = refl;
-        made = record {
-          whole = two_whole (begin_head index class) (begin_rest index class) (record { some = omega arith; ends = omega arith }) (record { some = omega arith; ends = omega arith });
-          apart = two_apart (begin_head index class) (begin_rest index class) (omega arith);
-          there = (
-            record { lawful = refl; there = λ byte lies. in_hand byte (lies_within (head_range (granule_place index) class) (granules_range index 2) byte refl refl (omega arith) (omega arith) lies) },
-            (record { lawful = refl; there = λ byte lies. in_hand byte (lies_within (objects_range (granule_place index) class) (granules_range index 2) byte refl refl (omega arith) (omega arith) lies) }, tt),
-          );
-          lawful = slab_begins (granule_place index) class class_is (slab_room state layout region granted index even inside (λ g on. ap is_plain (all g on)) knows);
-        };
-        quiet = (record { from = refl; to = refl; stays = refl; small = refl }, (record { from = refl; to = refl; stays = refl; small = refl }, tt));
+      made = record {
+        whole = two_whole (begin_head index class) (begin_rest index class) (record { some = omega arith; ends = omega arith }) (record { some = omega arith; ends = omega arith });
+        apart = two_apart (begin_head index class) (begin_rest index class) (omega arith);
+        there = (
+          record { lawful = refl; there = λ byte lies. in_hand byte (lies_within (head_range (granule_place index) class) (granules_range index 2) byte refl refl (omega arith) (omega arith) lies) },
+          (record { lawful = refl; there = λ byte lies. in_hand byte (lies_within (objects_range (granule_place index) class) (granules_range index 2) byte refl refl (omega arith) (omega arith) lies) }, tt),
+        );
+        lawful = slab_begins (granule_place index) class class_is (slab_room state layout region granted index even inside (λ g on. ap is_plain (all g on)) knows);
       };
+      quiet = (record { from = refl; to = refl; stays = refl; small = refl }, (record { from = refl; to = refl; stays = refl; small = refl }, tt));
       knows = record {
         held_is = λ byte. after_parts-at state.held (held_by layout) (begin_head index class ∷ begin_rest index class ∷ []) byte (knows.held_is byte) ∙ moved_begun layout index class byte;
         regions_are = knows.regions_are;

@@ -1,4 +1,3 @@
 pub mod Steps
 pub mod Journal
-pub mod Leaks
 pub mod Laws
