@@ -1,7 +1,7 @@
 pub mod StatusLemmas
-pub mod RegionLemmas
 pub mod NameLemmas
 pub mod Named
 pub mod Steps
 pub mod RunLemmas
 pub mod ReplayLemmas
+pub mod ClearLemmas

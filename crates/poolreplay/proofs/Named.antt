@@ -13,7 +13,7 @@ use Rattle.plain_lists.specs.Lists.{OwnSlab, Block, Lists, has_free}
 use Rattle.plain_lists.specs.Backend.{first_fit}
 use Rattle.plain_lists.specs.Whole.{Spot, whole, class_at, malloc_from, begins_in, stored_room, block_room, region_room, newest, spot_at, is_unit, free_of, msize_of, identify_of}
 use Rattle.plain_lists.specs.Held.{leak_at, leaks_of, slab_leaks, leaks_from, leaks_at}
-use Rattle.poolreplay.specs.Running.{IsLeakNamed}
+use Rattle.trace_calls.specs.Entries.{IsLeakNamed}
 use Rattle.std.proofs.lemmas.List.Elements.{All-cons, All-nil, All-append}
 
 -- the answer of a whole call

@@ -1,5 +1,5 @@
 -- What a trace that was read and run is, and which status comes.
-use Rattle.std.proofs.Common.{◌≡◌, ℕ, ◌-◌, ◌^◌, ◌<◌, ◌≤◌, List, [], ◌∷◌, ◌++◌, length, map, Some, None, sym, ◌∙◌, ap, subst, lit<, arith}
+use Rattle.std.proofs.Common.{◌≡◌, ℕ, ◌-◌, ◌^◌, ◌<◌, ◌≤◌, List, [], ◌++◌, length, map, Some, None, sym, ◌∙◌, ap, subst, lit<, arith}
 use Rattle.std.specs.Prelude.{All, Ok}
 use Rattle.pool_types.specs.declared.values.Region.{Region}
 use Rattle.pool_types.specs.declared.values.Answer.{Answer}
@@ -7,7 +7,8 @@ use Rattle.pool_types.specs.declared.values.Request.{Request}
 use Rattle.pool_types.specs.declared.values.Request.TheVariants.{Malloc}
 use Rattle.pool_types.specs.Limits.{most_lines, plain_region_bytes}
 use Rattle.pool_types.specs.Script.{IsAnswer}
-use Rattle.machine.specs.Runs.{Event}
+use Rattle.machine.specs.Events.{Event}
+use Rattle.machine.specs.Runs.{answers_in}
 use Rattle.part_model.specs.declared.totals.Totals.{Totals}
 use Rattle.trace_reader.specs.declared.acts.Forms.TheVariants as forms
 use Rattle.trace_reader.specs.declared.acts.TraceLine.{TraceLine}
@@ -24,18 +25,17 @@ use Rattle.plain_lists.specs.Held.{totals_at, leaks_at}
 use Rattle.plain_lists.specs.Whole.{IsServed, lists_after, answers_to}
 use Rattle.plain_lists.specs.Counts.{ArePlaced}
 use Rattle.plain_lists.proofs.Placed.{mallocs_are_placed}
-use Rattle.plain_runs.specs.Journal.{events_to, answers_in}
-use Rattle.plain_runs.proofs.Journals.{whole_calls_run, whole_calls_hold}
-use Rattle.poolreplay.specs.Names.{no_names, requests_from}
-use Rattle.poolreplay.specs.Entries.{line_entries, has_pool, end_entries}
+use Rattle.plain_runs.specs.Journal.{events_to}
+use Rattle.plain_runs.proofs.CallerLemmas.{whole_calls_run, whole_calls_hold, first_by_rule}
+use Rattle.trace_calls.specs.Names.{no_names, requests_from}
+use Rattle.trace_calls.specs.Entries.{line_entries, has_pool, end_entries}
 use Rattle.poolreplay.specs.Running.{no_line, judged, after_lines, run_entries, held_entries, run_report, IsServedLine}
 use Rattle.poolreplay.specs.Replay.{IsReplayed}
-use Rattle.poolreplay.proofs.RegionLemmas.{first_by_rule}
 use Rattle.poolreplay.proofs.RunLemmas.{IsReported, all_asked, requests_same, requests_served, requests_few, mallocs_small, served_reported}
 
 -- a trace that was read is one that is served
 pub trace_reported : (bytes : List ℕ) (trace : Trace) → ReadsTrace forms.Replay bytes (Ok trace) → IsReported (length trace.names.items) trace.lines.items
-trace_reported bytes trace spelled = served_reported trace.names.items trace.lines.items (replays_have_one_shape bytes trace spelled)
+trace_reported bytes trace spelled = served_reported trace.names.items trace.pools.items trace.lines.items (replays_have_one_shape bytes trace spelled)
 
 pub trace_served : (bytes : List ℕ) (trace : Trace) → ReadsTrace forms.Replay bytes (Ok trace) → All IsServedLine trace.lines.items
 trace_served bytes trace spelled = (trace_reported bytes trace spelled).served
@@ -67,22 +67,29 @@ replayed bytes text trace spelled written =
     report_text names (line_entries (judged threads) lines answers ++ end_entries (has_pool (judged threads) lines) totals (leaks_at (lists_after no_lists requests))) in
     record {
       trace = trace;
-      spelled = spelled;
       events = events;
-      journal = ap (events_to no_lists) (sym whole.asked);
-      run = whole.run;
-      asked = whole.asked ∙ sym (requests_same no_lists no_names lines) ∙ ap (λ (answers : List Answer). requests_from no_names lines answers) (sym whole.answered);
-      answered = whole.answered ∙ ap (λ (rs : List Request). answers_to no_lists rs) (sym whole.asked);
-      placed = λ sizes are. subst (λ (answers : List Answer). ArePlaced [] sizes answers) (sym whole.answered) (all_placed requests served sizes (sym whole.asked ∙ are));
-      region = λ region member. subst (λ (r : Region). IsAnswer None [] plain_region_bytes (Some r)) (sym (whole.regions region member)) (lit< tt, first_by_rule);
       leaks = leaks_at (lists_after no_lists requests);
-      held = holds.leaks;
-      listed = ap (λ (rs : List Request). leaks_at (lists_after no_lists rs)) (sym whole.asked);
-      judged = judged threads;
-      checked = parts.checked;
-      report = written
-          ∙ ap (λ (t : List ℕ). t ++ end_text) (sym (entries_text-append names run held))
-          ∙ ap (λ (entries : List ReportEntry). report_text names entries) parts.reported
-          ∙ ap (λ (answers : List Answer). report answers (totals_at (lists_after no_lists requests))) (sym whole.answered)
-          ∙ ap (λ (totals : Totals). report (answers_in events) totals) (sym holds.totals);
+      explained = record {
+        spelled = spelled;
+        run = whole.run;
+        calls = whole.calls;
+        ends = whole.ends;
+        raw = whole.raw;
+        region = λ region member. subst (λ (r : Region). IsAnswer None [] plain_region_bytes (Some r)) (sym (whole.regions region member)) (lit< tt, first_by_rule);
+        asked = whole.asked ∙ sym (requests_same no_lists no_names lines) ∙ ap (λ (answers : List Answer). requests_from no_names lines answers) (sym whole.answered);
+        held = holds.leaks;
+        judged = judged threads;
+        checked = parts.checked;
+        report = written
+            ∙ ap (λ (t : List ℕ). t ++ end_text) (sym (entries_text-append names run held))
+            ∙ ap (λ (entries : List ReportEntry). report_text names entries) parts.reported
+            ∙ ap (λ (answers : List Answer). report answers (totals_at (lists_after no_lists requests))) (sym whole.answered)
+            ∙ ap (λ (totals : Totals). report (answers_in events) totals) (sym holds.totals);
+      };
+      settled = record {
+        events_are = ap (events_to no_lists) (sym whole.asked);
+        answered = whole.answered ∙ ap (λ (rs : List Request). answers_to no_lists rs) (sym whole.asked);
+        placed = λ sizes are. subst (λ (answers : List Answer). ArePlaced [] sizes answers) (sym whole.answered) (all_placed requests served sizes (sym whole.asked ∙ are));
+        leaks_are = ap (λ (rs : List Request). leaks_at (lists_after no_lists rs)) (sym whole.asked);
+      };
     }

@@ -7,6 +7,8 @@ use Rattle.pool_types.specs.declared.values.Answer.{Answer}
 use Rattle.pool_types.specs.declared.values.Request.{Request}
 use Rattle.pool_types.specs.declared.values.Request.TheVariants.{Malloc}
 use Rattle.pool_types.specs.declared.texts.ThreadName.{ThreadName}
+use Rattle.arrayvec.specs.ArrayVec.{ArrayVec}
+use Rattle.trace_reader.specs.declared.acts.PoolOption.{PoolOption}
 use Rattle.trace_reader.specs.declared.acts.TraceCall.{TraceCall}
 use Rattle.trace_reader.specs.declared.acts.TraceCall.TheVariants as call
 use Rattle.trace_reader.specs.declared.acts.Act.{Act}
@@ -18,9 +20,10 @@ use Rattle.report_text.specs.declared.entry.ReportEntry.TheVariants.{Made, Answe
 use Rattle.plain_lists.specs.Lists.{Lists, no_lists}
 use Rattle.plain_lists.specs.Held.{totals_at, leaks_at}
 use Rattle.plain_lists.specs.Whole.{whole, IsServed, lists_after, answers_to}
-use Rattle.plain_runs.specs.Steps.{fixed_terms}
-use Rattle.poolreplay.specs.Names.{Names, no_names, request_of, names_after, call_at, asks, requests_from}
-use Rattle.poolreplay.specs.Entries.{Judged, limits_of, listed, reports, line_entries, has_pool, end_entries}
+use Rattle.machine.specs.States.{fixed_terms}
+use Rattle.trace_calls.specs.Names.{Names, no_names, request_of, names_after, call_at, asks, requests_from}
+use Rattle.trace_calls.specs.Pools.{Judged, limits_of}
+use Rattle.trace_calls.specs.Entries.{listed, reports, line_entries, has_pool, end_entries}
 use Rattle.poolreplay.specs.Running.{Going, no_line as nothing_run, judged, after_line, after_lines, entry_at, run_entries, held_entries, AsksServed, IsServedLine}
 use Rattle.std.proofs.lemmas.List.Elements.{All-cons, All-nil, All-head, All-tail}
 use Rattle.poolreplay.proofs.NameLemmas.{served_same}
@@ -196,25 +199,25 @@ none_left : (lines : List TraceLine) → map act_of lines ≡ [] → lines ≡ [
 none_left [] same = refl
 none_left (line ∷ lines) same = absurd (let clash : ◌≡◌ {A = List Act} (line.act ∷ map act_of lines) [] = same in cc)
 
-pub served_reported : (names : List ThreadName) (lines : List TraceLine) → AreServed names (map act_of lines) → IsReported (length names) lines
-served_reported names lines served = elim served [
-  | inl none ↦ subst (λ (ns : List ThreadName). IsReported (length ns) lines) (sym none.0) (subst (λ (ls : List TraceLine). IsReported 0 ls) (sym (none_left lines none.1)) no_line)
+pub served_reported : (names : List ThreadName) (pools : List (ArrayVec PoolOption)) (lines : List TraceLine) → AreServed names pools (map act_of lines) → IsReported (length names) lines
+served_reported names pools lines served = elim served [
+  | inl none ↦ subst (λ (ns : List ThreadName). IsReported (length ns) lines) (sym none.0) (subst (λ (ls : List TraceLine). IsReported 0 ls) (sym (none_left lines none.2)) no_line)
   | inr rest ↦ elim rest [
     | inl thread ↦
-        let first = begins lines act.Threads [] thread.2 in
+        let first = begins lines act.Threads [] thread.3 in
         subst (λ (ns : List ThreadName). IsReported (length ns) lines) (sym thread.1)
         (subst (λ (ls : List TraceLine). IsReported 1 ls) (sym (first.is ∙ ap (λ (ls : List TraceLine). line_at first.number act.Threads ∷ ls) (none_left first.rest first.rest_is))) (thread_line first.number))
     | inr rest ↦ elim rest [
       | inl pool ↦
-          let first = begins lines plain_pool [] pool.1 in
+          let first = begins lines plain_pool [] pool.2 in
           subst (λ (ns : List ThreadName). IsReported (length ns) lines) (sym pool.0)
           (subst (λ (ls : List TraceLine). IsReported 0 ls) (sym (first.is ∙ ap (λ (ls : List TraceLine). line_at first.number plain_pool ∷ ls) (none_left first.rest first.rest_is))) (pool_line first.number))
       | inr calls ↦
-          let first = begins lines act.Threads (plain_pool ∷ calls.1) calls.3 in
+          let first = begins lines act.Threads (plain_pool ∷ calls.1) calls.4 in
           let second = begins first.rest plain_pool calls.1 first.rest_is in
           subst (λ (ns : List ThreadName). IsReported (length ns) lines) (sym calls.2)
           (subst (λ (ls : List TraceLine). IsReported 1 ls) (sym (first.is ∙ ap (λ (ls : List TraceLine). line_at first.number act.Threads ∷ ls) second.is))
-          (call_lines first.number second.number second.rest (subst AreServedCalls (sym second.rest_is) calls.4)))
+          (call_lines first.number second.number second.rest (subst AreServedCalls (sym second.rest_is) calls.5)))
     ]
   ]
 ]

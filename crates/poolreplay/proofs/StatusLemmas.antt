@@ -35,7 +35,7 @@ read_all_of bytes new taken read = all_taken bytes new taken read.consumed read.
 -- no text both spells a trace and is refused
 not_both : (bytes : List ℕ) (trace : Trace) (line kind : ℕ) → ReadsTrace forms.Replay bytes (Ok trace) → IsRefused bytes line kind → ⊥
 not_both bytes trace line kind spelled refused =
-    let same : AllRead trace.lines.items _ ≡ FirstRefused line refused.0 = traces_are_clear forms.Replay bytes _ _ spelled refused.1 in
+    let same : AllRead trace.lines.items _ _ ≡ FirstRefused line refused.0 = traces_are_clear forms.Replay bytes _ _ spelled refused.1 in
     cc
 
 -- and one line is refused, with one kind
@@ -57,7 +57,7 @@ due_wanted : (words : List (List ℕ)) (bytes : List ℕ) (new : Option (List �
 due_wanted words bytes new text Done Done due wants = inl refl
 due_wanted words bytes new text Done BadWords due wants = absurd (wants due.0)
 due_wanted words bytes new text Done (BadTrace line kind) due wants =
-    absurd (not_both bytes due.1.2.trace line kind (subst (λ (b : List ℕ). ReadsTrace forms.Replay b (Ok due.1.2.trace)) (read_all_of bytes new due.1.0 due.1.1) due.1.2.spelled) wants.2)
+    absurd (not_both bytes due.1.2.trace line kind (subst (λ (b : List ℕ). ReadsTrace forms.Replay b (Ok due.1.2.trace)) (read_all_of bytes new due.1.0 due.1.1) due.1.2.explained.spelled) wants.2)
 due_wanted words bytes new text Done TooLong due wants = absurd (omega (arith, wants.1, due.1.1.few, ap (λ (b : List ℕ). length b) (read_all_of bytes new due.1.0 due.1.1)))
 due_wanted words bytes new text Done ReadFault due wants = absurd wants
 due_wanted words bytes new text Done WriteFault due wants = absurd wants

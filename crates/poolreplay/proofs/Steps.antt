@@ -15,19 +15,20 @@ use Rattle.report_text.specs.Named.{IsNamed}
 use Rattle.report_text.specs.Reports.{ReportView}
 use Rattle.plain_lists.specs.Lists.{Lists}
 use Rattle.plain_lists.specs.Whole.{whole}
-use Rattle.plain_runs.proofs.Journals.{granted_whole}
+use Rattle.plain_runs.proofs.CallerLemmas.{granted_whole}
 use Rattle.plain_pool.specs.declared.arrays.PoolArrays.{PoolArrays}
 use Rattle.plain_pool.specs.Pool.{Stands}
-use Rattle.poolreplay.specs.declared.places.Places.{Places}
-use Rattle.poolreplay.specs.Entries.{listed}
-use Rattle.poolreplay.specs.Names.{Names, request_of, names_after}
-use Rattle.poolreplay.specs.Running.{Going, no_line, judged, after_making, after_call, call_entry, after_line, after_lines, entry_at, run_entries, with_entry, with_entries, names_kept, StandsFor, IsAt, HasGranted, HasThread}
-use Rattle.poolreplay.proofs.NameLemmas.{request_same, after_same}
+use Rattle.trace_calls.specs.declared.places.Places.{Places}
+use Rattle.trace_calls.specs.Entries.{listed, with_entry, with_entries}
+use Rattle.trace_calls.specs.Names.{Names, request_of, names_after}
+use Rattle.poolreplay.specs.Running.{Going, no_line, judged, after_making, after_call, call_entry, after_line, after_lines, entry_at, run_entries, StandsFor, IsAt, HasGranted, HasThread}
+use Rattle.trace_calls.specs.Kept.{names_kept}
+use Rattle.trace_calls.proofs.CallerLemmas.{request_same, after_same}
 use Rattle.poolreplay.proofs.Named.{answer_named}
 
 -- what a pool and names are after a call
 pub called : (pool next : PoolArrays) (places kept : Places) (call : TraceCall) (answer : Answer) → ((lists : Lists) → Stands pool lists → Stands next (whole lists (request_of (names_kept places) call)).lists) →
-    ((word : List ℕ) → names_kept kept word ≡ names_after (names_kept places) call answer word) → ((lists : Lists) → Stands pool lists → answer ≡ (whole lists (request_of (names_kept places) call)).answer) →
+    ((name : ℕ) → names_kept kept name ≡ names_after (names_kept places) call answer name) → ((lists : Lists) → Stands pool lists → answer ≡ (whole lists (request_of (names_kept places) call)).answer) →
     (going : Going) → IsAt (Some pool) places going → IsAt (Some next) kept (after_call going.names call going.lists)
 called pool next places kept call answer stands named answered going is = by_lists going.lists is.stands
   where
@@ -38,7 +39,7 @@ called pool next places kept call answer stands named answered going is = by_lis
         let says : answer ≡ (whole lists (request_of going.names call)).answer = answered lists here ∙ ap (λ (r : Request). (whole lists r).answer) asks in
         record {
           stands = subst (λ (r : Request). Stands next (whole lists r).lists) asks (stands lists here);
-          names = λ word. named word ∙ after_same (names_kept places) going.names is.names call answer word ∙ ap (λ (a : Answer). names_after going.names call a word) says;
+          names = λ name. named name ∙ after_same (names_kept places) going.names is.names call answer name ∙ ap (λ (a : Answer). names_after going.names call a name) says;
         }
 
 -- and what it reports
@@ -79,12 +80,12 @@ granted_more most None few = tt
 granted_more most (Some lists) few = omega (arith, few)
 
 line_thread : (threads : ℕ) (going : Going) (deed : Act) → HasThread threads going.lists → HasThread threads (after_line threads going deed).lists
-line_thread threads going (act.Pool number options) some = made_thread threads
+line_thread threads going (act.Pool number) some = made_thread threads
 line_thread threads going (act.Call thread number call) some = called_thread threads going.names call going.lists some
 line_thread threads going other some = some
 
 line_granted : (threads most : ℕ) (going : Going) (deed : Act) → HasGranted most going.lists → HasGranted (most + 1) (after_line threads going deed).lists
-line_granted threads most going (act.Pool number options) few = made_granted threads (most + 1)
+line_granted threads most going (act.Pool number) few = made_granted threads (most + 1)
 line_granted threads most going (act.Call thread number call) few = called_granted most going.names call going.lists few
 line_granted threads most going other few = granted_more most going.lists few
 

@@ -1,4 +1,4 @@
-pub mod Entries
-pub mod Names
+pub mod Explained
+pub mod Settled
 pub mod Replay
 pub mod Running

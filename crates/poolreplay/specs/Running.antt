@@ -1,32 +1,28 @@
 -- What the lines of a trace make of a run, one after another.
 use Prim.Native.Nat.{zero, suc}
-use Rattle.std.specs.Prelude.{◌≡◌, ℕ, ◌≤◌, ◌<◌, List, [], ◌∷◌, ◌++◌, map, length, Some, None, Ok, Err}
+use Rattle.std.specs.Prelude.{◌≡◌, ℕ, ◌≤◌, ◌<◌, List, [], ◌∷◌, length, Some, None, Ok, Err}
 use Rattle.std.specs.declared.option.Option.{Option}
-use Rattle.std.specs.HashMap.{get_by}
-use Rattle.std.specs.Str.{bytes_eq}
 use Rattle.pool_types.specs.declared.policy.Which.TheVariants.{Seats}
 use Rattle.pool_types.specs.declared.policy.CreateError.TheVariants as refusal
-use Rattle.pool_types.specs.declared.values.Leak.{Leak}
-use Rattle.pool_types.specs.declared.values.Place.{Place}
 use Rattle.trace_reader.specs.declared.acts.TraceCall.{TraceCall}
 use Rattle.trace_reader.specs.declared.acts.Act.{Act}
 use Rattle.trace_reader.specs.declared.acts.Act.TheVariants as act
 use Rattle.trace_reader.specs.declared.acts.TraceLine.{TraceLine}
 use Rattle.trace_reader.specs.declared.trace.Trace.{Trace}
 use Rattle.report_text.specs.declared.entry.ReportEntry.{ReportEntry}
-use Rattle.report_text.specs.declared.entry.ReportEntry.TheVariants.{Gone, Answered, Total}
+use Rattle.report_text.specs.declared.entry.ReportEntry.TheVariants.{Gone, Answered}
 use Rattle.report_text.specs.Reports.{ReportView}
-use Rattle.report_text.specs.Named.{IsNamed}
 use Rattle.pool_types.specs.Texts.{names_of}
-use Rattle.report_text.specs.Entries.{entry_text, entries_text}
 use Rattle.plain_lists.specs.Lists.{Lists, no_lists}
 use Rattle.plain_lists.specs.Held.{totals_at, leaks_at}
 use Rattle.plain_lists.specs.Whole.{whole, IsServed}
 use Rattle.plain_pool.specs.declared.arrays.PoolArrays.{PoolArrays}
 use Rattle.plain_pool.specs.Pool.{Stands}
-use Rattle.poolreplay.specs.declared.places.Places.{Places}
-use Rattle.poolreplay.specs.Names.{Names, no_names, request_of, names_after, call_at}
-use Rattle.poolreplay.specs.Entries.{Judged, made_entry, listed, leaked}
+use Rattle.trace_calls.specs.declared.places.Places.{Places}
+use Rattle.trace_calls.specs.Names.{Names, no_names, request_of, names_after, call_at}
+use Rattle.trace_calls.specs.Pools.{Judged, made_entry}
+use Rattle.trace_calls.specs.Entries.{listed, pool_end, with_entries}
+use Rattle.trace_calls.specs.Kept.{names_kept}
 
 -- how the making of a pool for so many threads is judged
 abbrev pub judged : ℕ → Judged
@@ -62,20 +58,21 @@ call_entry line names call (Some lists) = Answered line (whole lists (request_of
 
 -- after a line, where there are so many threads
 abbrev pub after_line : ℕ → Going → Act → Going
-after_line threads going (act.Pool number options) = record { lists = after_making (judged threads); names = going.names }
+after_line threads going (act.Pool number) = record { lists = after_making (judged threads); names = going.names }
 after_line threads going (act.Call thread number call) = after_call going.names call going.lists
 after_line threads going other = going
 
 -- what a line reports
 abbrev pub entry_at : ℕ → Going → ℕ → Act → Option ReportEntry
-entry_at threads going line (act.Pool number options) = made_entry line (judged threads)
+entry_at threads going line (act.Pool number) = made_entry line (judged threads)
 entry_at threads going line (act.Call thread number call) = Some (call_entry line going.names call going.lists)
 entry_at threads going line other = None
 
 -- what the lines report, one after another
 abbrev pub run_entries : ℕ → Going → List TraceLine → List ReportEntry
 run_entries threads going [] = []
-run_entries threads going (line ∷ lines) = listed (entry_at threads going line.line line.act) (run_entries threads (after_line threads going line.act) lines)
+run_entries threads going (line ∷ lines) =
+    listed (entry_at threads going line.line line.act) (run_entries threads (after_line threads going line.act) lines)
 
 -- after all of them
 abbrev pub after_lines : ℕ → Going → List TraceLine → Going
@@ -85,32 +82,15 @@ after_lines threads going (line ∷ lines) = after_lines threads (after_line thr
 -- what the pool reports at the end
 abbrev pub held_entries : Option Lists → List ReportEntry
 held_entries None = []
-held_entries (Some lists) = Total 0 (totals_at lists) ∷ map leaked (leaks_at lists)
-
--- a report with one entry more, if there is one
-abbrev pub with_entry : ReportView → Option ReportEntry → ReportView
-with_entry report None = report
-with_entry report (Some entry) = record { names = report.names; text = report.text ++ entry_text report.names entry }
-
--- a report with these entries more
-abbrev pub with_entries : ReportView → List ReportEntry → ReportView
-with_entries report entries = record { names = report.names; text = report.text ++ entries_text report.names entries }
+held_entries (Some lists) = pool_end 0 (totals_at lists) [] (leaks_at lists)
 
 -- the report of a whole run
 abbrev pub run_report : Trace → ReportView
 run_report trace =
     with_entries
-    (with_entries (record { names = names_of trace.names.items; text = [] }) (run_entries (length trace.names.items) no_line trace.lines.items))
+    (with_entries (record { names = names_of trace.names.items; text = [] })
+    (run_entries (length trace.names.items) no_line trace.lines.items))
     (held_entries (after_lines (length trace.names.items) no_line trace.lines.items).lists)
-
--- what is kept of a name stands for a place or null; a name of which nothing is kept stands for null
-abbrev pub place_kept : Option (Option Place) → Option Place
-place_kept (Some place) = place
-place_kept None = None
-
--- what the names stand for of which these are kept
-abbrev pub names_kept : Places → Names
-names_kept places = λ word. place_kept (get_by (λ key. bytes_eq word key.bytes.items) places.kept)
 
 -- the pool stands for the lists, or there is neither
 abbrev pub StandsFor : Option PoolArrays → Option Lists → Type 0
@@ -122,7 +102,7 @@ StandsFor (Some pool) (Some lists) = Stands pool lists
 -- this is what a replay has
 pub record IsAt (pool : Option PoolArrays) (places : Places) (going : Going) : Type 0 where
   pub stands : StandsFor pool going.lists
-  pub names : (word : List ℕ) → names_kept places word ≡ going.names word
+  pub names : (name : ℕ) → names_kept places name ≡ going.names name
 
 -- what a call asks is served
 abbrev pub AsksServed : Option TraceCall → Type 0
@@ -141,11 +121,3 @@ HasGranted most (Some lists) = lists.granted ≤ most
 abbrev pub HasThread : ℕ → Option Lists → Type 0
 HasThread threads None = Unit {0}
 HasThread threads (Some lists) = 0 < threads
-
--- each seat in the entry is that of a thread
-abbrev pub IsEntryNamed : ℕ → Option ReportEntry → Type 0
-IsEntryNamed threads None = Unit {0}
-IsEntryNamed threads (Some entry) = IsNamed threads entry
-
-abbrev pub IsLeakNamed : ℕ → Leak → Type 0
-IsLeakNamed threads leak = leak.grant.seat < threads

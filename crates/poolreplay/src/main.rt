@@ -1,10 +1,10 @@
 //! Replays a trace of pool calls from standard input, and reports on standard output what each call answered.
 //!
-//! Modules: `replay` (from the command's words and the trace's bytes to the status and the bytes that are written), `run`
-//! (the lines of a trace, one after another) and `places` (what the names stand for, and what the calls in the lines ask).
+//! Modules: `replay` (from the command's words and the trace's bytes to the status and the bytes that are written),
+//! `run` (the lines of a trace, one after another) and `laws` (that the bytes settle the text).
 #![tactic(auto)]
 
-mod places;
+mod laws;
 mod replay;
 mod run;
 #[cfg(test)]

@@ -1,10 +1,12 @@
 //! The whole of a replay: from the words and the bytes that come in to the bytes that go out. This project's own.
-ghost use Rattle.std.specs.Prelude.{◌≡◌, ◌≢◌, ◌<◌, ◌⊎◌, ℕ, List, [], length, map, string_bytes, Some, Ok, IfOk, OnOk, OnErr, true, false, codes};
+ghost use Rattle.std.specs.Prelude.{◌≡◌, ◌≢◌, ◌<◌, ◌⊎◌, ℕ, List, [], length, map, string_bytes, Some, Ok, IfOk, OnOk};
+ghost use Rattle.std.specs.Prelude.{OnErr, true, false, codes};
 ghost use Rattle.std.specs.Io.KnownBytes.{Appends};
 ghost use Rattle.pool_types.specs.Causes.{Rose};
 ghost use Rattle.pool_types.specs.Transfers.{IsWrittenPart};
 ghost use Rattle.trace_reader.specs.Text.{ReadsTrace};
-ghost use Rattle.poolreplay.specs.Replay.{ComesBut, IsCommand, IsDue, IsReply, IsWanted, output_text, refused_text, status_number};
+ghost use Rattle.poolreplay.specs.Replay.{IsCommand, IsDue, IsReply, output_text, refused_text, status_number};
+ghost use Rattle.poolreplay.specs.Replay.{IsComplete, IsFrontWritten, IsWritten};
 ghost use Rattle.poolreplay.specs.declared.replay.Status.{Status};
 
 use crate::run::run_trace;
@@ -159,7 +161,8 @@ fn reply_to(alloc: Global, bytes: &[u8]) -> Reply
 
 /// The status and the text that are due. For words that are no command line nothing is read.
 fn due<S: Source>(alloc: Global, words: &[String], source: &mut S) -> Reply
-    ensures due { IsDue (map string_bytes words.now) (S.left source.old) (S.left source.new) result.status (output_text result.output) }
+    ensures due { IsDue (map string_bytes words.now) (S.left source.old) (S.left source.new) result.status
+        (output_text result.output) }
     ensures fault { result.status ≡ Status.ReadFault → Rose (S.faults source.old) (S.faults source.new) }
     ensures kept { result.status ≢ Status.ReadFault → S.faults source.new ≡ S.faults source.old }
 {
@@ -201,10 +204,16 @@ pub fn replay<S: Source, K: Sink>(
     source: &mut S,
     sink: &mut K,
 ) -> Status
-    ensures written { result ≢ Status.WriteFault → (text : List ℕ) × IsDue (map string_bytes words.now) (S.left source.old) (S.left source.new) result text × Appends (K.taken sink.old) (K.taken sink.new) text }
-    ensures part { result ≡ Status.WriteFault → (status : Status) × (text : List ℕ) × IsDue (map string_bytes words.now) (S.left source.old) (S.left source.new) status text × IsWrittenPart (K.taken sink.old) (K.taken sink.new) text }
-    ensures complete { (bytes : List ℕ) (status : Status) → S.left source.old ≡ Some bytes → IsWanted (map string_bytes words.now) bytes status → ComesBut status result (S.faults source.old) (S.faults source.new) (K.faults sink.old) (K.faults sink.new) }
-    ensures refused { (IsCommand (map string_bytes words.now) → ⊥) → (result ≡ Status.BadWords) ⊎ (result ≡ Status.NoMemory) ⊎ (result ≡ Status.WriteFault) }
+    ensures written { result ≢ Status.WriteFault →
+        IsWritten (map string_bytes words.now) (S.left source.old) (S.left source.new) result (K.taken sink.old)
+        (K.taken sink.new) }
+    ensures part { result ≡ Status.WriteFault →
+        IsFrontWritten (map string_bytes words.now) (S.left source.old) (S.left source.new) (K.taken sink.old)
+        (K.taken sink.new) }
+    ensures complete { IsComplete (map string_bytes words.now) (S.left source.old) result (S.faults source.old)
+        (S.faults source.new) (K.faults sink.old) (K.faults sink.new) }
+    ensures refused { (IsCommand (map string_bytes words.now) → ⊥) →
+        (result ≡ Status.BadWords) ⊎ (result ≡ Status.NoMemory) ⊎ (result ≡ Status.WriteFault) }
     ensures read { result ≡ Status.ReadFault → Rose (S.faults source.old) (S.faults source.new) }
     ensures read_on { result ≢ Status.ReadFault → S.faults source.new ≡ S.faults source.old }
     ensures write { result ≡ Status.WriteFault → Rose (K.faults sink.old) (K.faults sink.new) }

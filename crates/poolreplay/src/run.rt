@@ -4,17 +4,20 @@ ghost use Rattle.pool_types.specs.Limits.{most_lines, most_seats};
 ghost use Rattle.plain_lists.specs.Lists.{Lists};
 ghost use Rattle.plain_lists.specs.Whole.{IsServed, whole};
 ghost use Rattle.plain_pool.specs.Pool.{Stands};
-ghost use Rattle.poolreplay.specs.Entries.{made_entry, leaked};
-ghost use Rattle.poolreplay.specs.Names.{no_names, request_of, names_after};
-ghost use Rattle.poolreplay.specs.Running.{Going, no_line, judged, after_making, names_kept, after_call, after_line, after_lines, call_entry, entry_at, with_entry, with_entries, held_entries, run_entries, run_report, IsAt, StandsFor, IsServedLine, HasGranted, HasThread, IsEntryNamed, IsLeakNamed};
+ghost use Rattle.trace_calls.specs.Pools.{made_entry};
+ghost use Rattle.trace_calls.specs.Entries.{with_entry, with_entries};
+ghost use Rattle.trace_calls.specs.Names.{no_names, request_of, names_after};
+ghost use Rattle.poolreplay.specs.Running.{Going, no_line, judged, after_making, after_call, after_line, after_lines};
+ghost use Rattle.poolreplay.specs.Running.{call_entry, entry_at, held_entries, run_entries, run_report, IsAt};
+ghost use Rattle.poolreplay.specs.Running.{StandsFor, IsServedLine, HasGranted, HasThread};
+ghost use Rattle.trace_calls.specs.Kept.{names_kept};
 
-use crate::places::Places;
 use plain_pool::Pool;
-use pool_types::limits::{PLAIN_REGION_BYTES, PLAIN_SPAN};
-use pool_types::{Answer, CreateError, Leak, Limits, Policy, check};
+use pool_types::{Answer, CreateError};
 use report_text::{NoMemory, Report, ReportEntry};
 use std::alloc::{AllocError, Global};
-use trace_reader::{Act, Trace, TraceCall, TraceLine};
+use trace_calls::{Places, add_entry, add_pool_end, judge_pool, made_entry};
+use trace_reader::{Act, PoolOption, Trace, TraceCall, TraceLine};
 
 /// The pool, once it is made, what the names stand for, and the report of the lines so far.
 #[derive(Drop)]
@@ -29,22 +32,7 @@ fn judged(threads: u8) -> Result<(), CreateError>
     requires { threads ≤ most_seats }
     ensures { result ≡ judged threads }
 {
-    let policy = Policy {
-        gets: true,
-        frees: true,
-        version: 1,
-        granularity: 0,
-        fixed: true,
-        keep: false,
-        reserved: 0,
-    };
-    let limits = Limits {
-        pool: 0,
-        seats: threads,
-        span: PLAIN_SPAN,
-        region: PLAIN_REGION_BYTES,
-    };
-    check(&policy, &limits)
+    judge_pool(0, threads, &[PoolOption::Fixed])
 }
 
 /// The pool whose making was judged so.
@@ -57,64 +45,31 @@ fn pool_of(alloc: Global, verdict: Result<(), CreateError>) -> Result<Option<Poo
     }
 }
 
-/// What the pool's line reports, where its making was judged so.
-fn made_entry(line: u32, verdict: Result<(), CreateError>) -> Option<ReportEntry>
-    ensures { result ≡ made_entry line verdict }
-{
-    match verdict {
-        Ok(()) => Some(ReportEntry::Made { line }),
-        Err(CreateError::InvalidPolicy) => Some(ReportEntry::InvalidPolicy { line }),
-        Err(CreateError::UnsupportedPolicy) => Some(ReportEntry::UnsupportedPolicy { line }),
-        Err(CreateError::BadLimits(limit)) => Some(ReportEntry::BadLimits { line, limit }),
-        Err(CreateError::NoMemory) => None,
-    }
-}
-
 /// Makes a call of the pool, and keeps what its answer makes a name stand for.
 fn call_pool(pool: &mut Pool, places: &mut Places, call: &TraceCall) -> Result<Answer, AllocError>
     requires stands { (lists : Lists) × Stands pool.old lists × (lists.granted < 2 ^ 55 - 1) }
     requires served { IsServed (request_of (names_kept places.old) call.now) }
-    ensures pool { OnOk result ((lists : Lists) → Stands pool.old lists → Stands pool.new (whole lists (request_of (names_kept places.old) call.now)).lists) }
-    ensures names { IfOk result (λ answer. (word : List ℕ) → names_kept places.new word ≡ names_after (names_kept places.old) call.now answer word) }
-    ensures answer { IfOk result (λ answer. (lists : Lists) → Stands pool.old lists → answer ≡ (whole lists (request_of (names_kept places.old) call.now)).answer) }
+    ensures pool { OnOk result ((lists : Lists) → Stands pool.old lists →
+        Stands pool.new (whole lists (request_of (names_kept places.old) call.now)).lists) }
+    ensures names { IfOk result (λ answer. (name : ℕ) →
+        names_kept places.new name ≡ names_after (names_kept places.old) call.now answer name) }
+    ensures answer { IfOk result (λ answer. (lists : Lists) → Stands pool.old lists →
+        answer ≡ (whole lists (request_of (names_kept places.old) call.now)).answer) }
 {
     let answer = pool.call(places.request_of(call));
     places.answered(call, answer)?;
     Ok(answer)
 }
 
-/// Adds what a line reports, if it reports something.
-fn add_entry(alloc: Global, report: &mut Report, entry: Option<ReportEntry>) -> Result<(), NoMemory>
-    requires { IsEntryNamed (length report.old.names) entry }
-    ensures { OnOk result (report.new ≡ with_entry report.old entry) }
-{
-    match entry {
-        Some(entry) => report.add(alloc, entry),
-        None => Ok(()),
-    }
-}
-
-/// Adds the objects that are still held.
-fn add_leaks(alloc: Global, report: &mut Report, leaks: &[Leak]) -> Result<(), NoMemory>
-    requires { All (IsLeakNamed (length report.old.names)) leaks.now }
-    ensures { OnOk result (report.new ≡ with_entries report.old (map leaked leaks.now)) }
-{
-    for leak in leaks {
-        report.add(alloc, ReportEntry::Leaked { leak: *leak })?;
-    }
-    Ok(())
-}
-
 /// Adds what the pool holds at the end.
 fn add_held(alloc: Global, report: &mut Report, pool: &Pool) -> Result<(), NoMemory>
     requires named { 0 < length report.old.names }
     requires stands { (lists : Lists) × Stands pool.now lists }
-    ensures { OnOk result ((lists : Lists) → Stands pool.now lists → report.new ≡ with_entries report.old (held_entries (Some lists))) }
+    ensures { OnOk result ((lists : Lists) → Stands pool.now lists →
+        report.new ≡ with_entries report.old (held_entries (Some lists))) }
 {
-    let totals = pool.totals();
-    report.add(alloc, ReportEntry::Total { pool: 0, totals })?;
     match pool.leaks(alloc) {
-        Ok(leaks) => add_leaks(alloc, report, leaks.as_slice()),
+        Ok(leaks) => add_pool_end(report, 0, pool.totals(), &[], leaks.as_slice()),
         Err(AllocError) => Err(NoMemory),
     }
 }
@@ -124,23 +79,29 @@ impl Run {
     fn make(&mut self, alloc: Global, threads: u8, line: u32) -> Result<(), NoMemory>
         requires few { threads ≤ most_seats }
         requires named { length self.old.report.names ≡ threads }
-        ensures going { OnOk result ((going : Going) → IsAt self.old.pool self.old.places going → IsAt self.new.pool self.new.places (record { lists = after_making (judged threads); names = going.names })) }
-        ensures report { OnOk result (self.new.report ≡ with_entry self.old.report (made_entry line (judged threads))) }
+        ensures going { OnOk result ((going : Going) → IsAt self.old.pool self.old.places going →
+            IsAt self.new.pool self.new.places
+            (record { lists = after_making (judged threads); names = going.names })) }
+        ensures report { OnOk result (self.new.report
+            ≡ with_entry self.old.report (made_entry line (judged threads))) }
     {
         let verdict = judged(threads);
         let Ok(pool) = pool_of(alloc, verdict) else {
             return Err(NoMemory);
         };
         self.pool = pool;
-        add_entry(alloc, &mut self.report, made_entry(line, verdict))
+        add_entry(&mut self.report, made_entry(line, verdict))
     }
 
     /// What a call reports. A pool that was not made is gone.
     fn call(&mut self, line: u32, call: &TraceCall) -> Result<ReportEntry, NoMemory>
         requires served { IsServed (request_of no_names call.now) }
-        requires going { (going : Going) × IsAt self.old.pool self.old.places going × HasGranted (2 ^ 55 - 2) going.lists }
-        ensures going { OnOk result ((going : Going) → IsAt self.old.pool self.old.places going → IsAt self.new.pool self.new.places (after_call going.names call.now going.lists)) }
-        ensures entry { IfOk result (λ entry. (going : Going) → IsAt self.old.pool self.old.places going → entry ≡ call_entry line going.names call.now going.lists) }
+        requires going { (going : Going) × IsAt self.old.pool self.old.places going
+            × HasGranted (2 ^ 55 - 2) going.lists }
+        ensures going { OnOk result ((going : Going) → IsAt self.old.pool self.old.places going →
+            IsAt self.new.pool self.new.places (after_call going.names call.now going.lists)) }
+        ensures entry { IfOk result (λ entry. (going : Going) → IsAt self.old.pool self.old.places going →
+            entry ≡ call_entry line going.names call.now going.lists) }
         ensures report { self.new.report ≡ self.old.report }
     {
         match &mut self.pool {
@@ -157,15 +118,18 @@ impl Run {
         requires few { threads ≤ most_seats }
         requires served { IsServedLine line.now }
         requires named { length self.old.report.names ≡ threads }
-        requires going { (going : Going) × IsAt self.old.pool self.old.places going × HasGranted (2 ^ 55 - 2) going.lists × HasThread threads going.lists }
-        ensures going { OnOk result ((going : Going) → IsAt self.old.pool self.old.places going → IsAt self.new.pool self.new.places (after_line threads going line.now.act)) }
-        ensures report { OnOk result ((going : Going) → IsAt self.old.pool self.old.places going → self.new.report ≡ with_entry self.old.report (entry_at threads going line.now.line line.now.act)) }
+        requires going { (going : Going) × IsAt self.old.pool self.old.places going
+            × HasGranted (2 ^ 55 - 2) going.lists × HasThread threads going.lists }
+        ensures going { OnOk result ((going : Going) → IsAt self.old.pool self.old.places going →
+            IsAt self.new.pool self.new.places (after_line threads going line.now.act)) }
+        ensures report { OnOk result ((going : Going) → IsAt self.old.pool self.old.places going →
+            self.new.report ≡ with_entry self.old.report (entry_at threads going line.now.line line.now.act)) }
     {
         match &line.act {
             Act::Pool { .. } => self.make(alloc, threads, line.line),
             Act::Call { call, .. } => {
                 let entry = self.call(line.line, call)?;
-                self.report.add(alloc, entry)
+                self.report.add(entry)
             }
             _ => Ok(()),
         }
@@ -173,8 +137,10 @@ impl Run {
 
     /// What all its lines came to, and then what its pool holds.
     fn into_report(self, alloc: Global) -> Result<Report, NoMemory>
-        requires { (going : Going) × IsAt self.pool self.places going × HasThread (length self.report.names) going.lists }
-        ensures { IfOk result (λ report. (going : Going) → IsAt self.pool self.places going → report ≡ with_entries self.report (held_entries going.lists)) }
+        requires { (going : Going) × IsAt self.pool self.places going
+            × HasThread (length self.report.names) going.lists }
+        ensures { IfOk result (λ report. (going : Going) → IsAt self.pool self.places going →
+            report ≡ with_entries self.report (held_entries going.lists)) }
     {
         let Run {
             pool,
@@ -196,7 +162,8 @@ fn run_lines(alloc: Global, run: &mut Run, threads: u8, lines: &[TraceLine]) -> 
     requires named { length run.old.report.names ≡ threads }
     requires fresh { IsAt run.old.pool run.old.places no_line }
     ensures going { OnOk result (IsAt run.new.pool run.new.places (after_lines threads no_line lines.now)) }
-    ensures report { OnOk result (run.new.report ≡ with_entries run.old.report (run_entries threads no_line lines.now)) }
+    ensures report { OnOk result (run.new.report
+        ≡ with_entries run.old.report (run_entries threads no_line lines.now)) }
     ensures thread { OnOk result (HasThread threads (after_lines threads no_line lines.now).lists) }
 {
     for line in lines {

@@ -1,5 +1,6 @@
-use Rattle.std.proofs.Common.{◌≡◌, List, ◌∷◌, ◌+◌, drop, ap, sym, ◌∙◌, subst}
+use Rattle.std.proofs.Common.{◌≡◌, List, ◌∷◌, ◌+◌, drop, get_or, ap, ◌∙◌, subst}
 use Rattle.std.proofs.lemmas.List.{drop_more}
+use Rattle.trace_reader.specs.declared.acts.Act.TheVariants as act
 use Rattle.trace_reader.specs.declared.acts.TraceLine.{TraceLine}
 use Rattle.report_text.specs.Reports.{ReportView}
 use Rattle.poolreplay.proofs.Steps.{IsUnderWay, entry_names, stepped}
@@ -9,11 +10,13 @@ pub loop-line-preserved : goal.loop-line-preserved
 loop-line-preserved c =
     let run = c.loop-line.run in
     let way = c.loop-line.invariant.way in
-    let left : drop c.loop-line.line-index c.args.lines.now ≡ c.line-item.result ∷ drop (c.loop-line.line-index + 1) c.args.lines.now =
-    drop_more c.args.lines.now c.loop-line.line-index c.line-item.result c.loop-line-test.true ∙ ap (λ (line : TraceLine). line ∷ drop (c.loop-line.line-index + 1) c.args.lines.now) (sym c.line-item.is) in
+    let none : TraceLine = record { line = 0; act = act.Threads } in
+    let line : TraceLine = get_or c.args.lines.now c.loop-line.line-index none in
+    let left : drop c.loop-line.line-index c.args.lines.now ≡ line ∷ drop (c.loop-line.line-index + 1) c.args.lines.now =
+    drop_more c.args.lines.now c.loop-line.line-index none c.loop-line-test.true in
     record {
       names = ap (λ (report : ReportView). report.names) (c.in_ok-step.ensures.report way.going way.here) ∙ entry_names run.report _ ∙ c.loop-line.invariant.names;
-      way = stepped c.args.threads c.loop-line.line-index run.pool _ run.places _ run.report _ c.args.run.now.report c.args.lines.now c.line-item.result (drop (c.loop-line.line-index + 1) c.args.lines.now)
+      way = stepped c.args.threads c.loop-line.line-index run.pool _ run.places _ run.report _ c.args.run.now.report c.args.lines.now line (drop (c.loop-line.line-index + 1) c.args.lines.now)
           c.in_ok-step.ensures.going c.in_ok-step.ensures.report
           (subst (λ (ls : List TraceLine). IsUnderWay c.args.threads c.loop-line.line-index run.pool run.places run.report c.args.run.now.report c.args.lines.now ls) left way);
     }
