@@ -16,7 +16,7 @@ use Rattle.word_codes.specs.declared.marks.Mark.{Mark}
 use Rattle.word_codes.specs.Marks.{mark_of, mark_word}
 use Rattle.word_codes.specs.Places.{granule_of, slab_granule, granule_units}
 use Rattle.word_codes.specs.RegionWords.{region_of, offset_of}
-use Rattle.word_codes.specs.Sums.{capped}
+use Rattle.pool_types.specs.Sums.{capped}
 use Rattle.heap_slabs.specs.declared.records.HeapSlab.{HeapSlab}
 use Rattle.heap_slabs.specs.Slabs.{record_at}
 use Rattle.public_list.specs.declared.ending.EndAt.{EndAt}
@@ -35,6 +35,10 @@ gone l at = (record l { at = at }, Turn.Stepped)
 -- the call waits, and this step is next
 abbrev pub waiting : Local → At → Awaited → Local × Turn
 waiting l at awaited = (record l { at = at }, Turn.Waits awaited)
+
+-- another has this bin's lock
+abbrev pub bin_waits : Local → At → ℕ → Local × Turn
+bin_waits l at bin = waiting l at (Awaited.BinLock (bin % 2 ^ 16))
 
 -- the call has its answer
 abbrev pub answered : Local → Answer → Local × Turn
@@ -95,6 +99,7 @@ ended_at c Stage.Getting = c.old
 ended_at c Stage.Ending = c.old
 ended_at c Stage.Replacing = c.old
 ended_at c Stage.Leaving = c.old
+ended_at c (Stage.Resetting stage) = c.old
 
 abbrev pub ended_object : Local → Object
 ended_object l = ended_at l.call l.call.stage
@@ -157,6 +162,7 @@ ended_as l Stage.Idle = Answer.Freed
 ended_as l Stage.Looking = Answer.Freed
 ended_as l Stage.Getting = Answer.Freed
 ended_as l Stage.Leaving = Answer.Freed
+ended_as l (Stage.Resetting stage) = Answer.Freed
 
 -- a grant is ended, with all that follows
 abbrev pub ended : Local → Local × Turn
@@ -171,6 +177,7 @@ lost_at l found Stage.Idle = answered l (Answer.NotHeld found)
 lost_at l found Stage.Looking = answered l (Answer.NotHeld found)
 lost_at l found Stage.Getting = answered l (Answer.NotHeld found)
 lost_at l found Stage.Leaving = answered l (Answer.NotHeld found)
+lost_at l found (Stage.Resetting stage) = answered l (Answer.NotHeld found)
 
 abbrev pub lost_end : Local → Found → Local × Turn
 lost_end l found = lost_at l found l.call.stage

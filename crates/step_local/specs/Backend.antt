@@ -47,14 +47,10 @@ use Rattle.step_local.specs.declared.frames.PutFor.{PutFor}
 use Rattle.step_local.specs.declared.frames.Served.{Served}
 use Rattle.step_local.specs.declared.frames.SmallAt.{SmallAt}
 use Rattle.step_local.specs.declared.frames.Tries.{Tries}
-use Rattle.step_local.specs.Answers.{gone, waiting, answered}
+use Rattle.step_local.specs.Answers.{gone, waiting, bin_waits, answered}
 use Rattle.step_local.specs.Leaving.{put_call, scan_call, scanning, gives_back, leaving}
 use Rattle.step_local.specs.Slabs.{locating, surplus_left}
 use Rattle.step_local.specs.Large.{sweeping, ticked, emptying, releasing}
-
--- another has this bin's lock
-abbrev pub bin_waits : Local → At → ℕ → Local × Turn
-bin_waits l at bin = waiting l at (Awaited.BinLock (bin % 2 ^ 16))
 
 -- the backend gave the piece
 abbrev pub asked_as : Local → Block → Served → Local × Turn

@@ -40,6 +40,7 @@ use Rattle.step_local.specs.Backend.{cut_call, whole_call, drain_call, office_ca
 use Rattle.step_local.specs.Large.{cache_call, keep_call, sweep_call}
 use Rattle.step_local.specs.Leaving.{leave_call, put_call, scan_call}
 use Rattle.step_local.specs.Objects.{look_call, post_call, mail_call}
+use Rattle.step_local.specs.Resetting.{reset_course}
 use Rattle.step_local.specs.Slabs.{class_of_served, box_call, adopt_call, join_call, spare_call}
 
 abbrev pub locate_course : LocateAt → Action
@@ -92,6 +93,7 @@ course_at l (At.Whole at) = bin_course (whole_call l) at
 course_at l (At.Drain at) = drain_course (drain_call l) at
 course_at l (At.Put at) = put_course (put_call l) at
 course_at l (At.Office job at) = office_course (office_call l job) at
+course_at l (At.Reset at) = reset_course l at
 
 abbrev pub course : Local → Action
 course l = course_at l l.at

@@ -25,6 +25,10 @@ use Rattle.step_local.specs.declared.frames.Tries.{Tries}
 abbrev pub most_released : ℕ
 most_released = 64
 
+-- the last bin of the cache
+abbrev pub last_cache_bin : ℕ
+last_cache_bin = 1023
+
 abbrev pub no_object : Object
 no_object = record { number = 0; offset = 0; unit = 0; mark = 0; kind = Kind.Nothing }
 

@@ -1,5 +1,6 @@
 -- How a call begins, and how an object is got in another's place.
-use Rattle.std.specs.Prelude.{ℕ, ◌+◌, ◌-◌, ◌%◌, ◌^◌, Bool, true, false, cond, eqb, leb, not, ◌&&◌, ◌||◌, Option, Some, None, Result, Ok, Err}
+use Rattle.std.specs.Prelude.{ℕ, ◌+◌, ◌-◌, ◌%◌, ◌^◌, Bool, true, false, cond, eqb, leb, not, ◌&&◌, ◌||◌, Option, Some}
+use Rattle.std.specs.Prelude.{None, Result, Ok, Err}
 use Rattle.std.specs.Int.{is_power_of_two}
 use Rattle.pool_types.specs.Limits.{region_numbers}
 use Rattle.pool_types.specs.declared.values.Answer.{Answer}
@@ -13,17 +14,21 @@ use Rattle.size_classes.specs.Served.{served, served_plain}
 use Rattle.size_classes.specs.declared.Served as classes
 use Rattle.heap_slabs.specs.declared.heap.Leaving.{Leaving}
 use Rattle.heap_slabs.specs.Heaps.{next_to_leave}
+use Rattle.orphans.specs.declared.adopting.AdoptAt.{AdoptAt}
 use Rattle.public_list.specs.declared.looking.LookAt.{LookAt}
-use Rattle.word_codes.specs.Sums.{capped}
+use Rattle.pool_types.specs.Sums.{capped}
 use Rattle.step_local.specs.declared.frames.At.{At}
 use Rattle.step_local.specs.declared.frames.LargeAt.{LargeAt}
 use Rattle.step_local.specs.declared.frames.Local.{Local}
+use Rattle.step_local.specs.declared.frames.Reset.{Reset}
+use Rattle.step_local.specs.declared.frames.ResetStage.{ResetStage}
 use Rattle.step_local.specs.declared.frames.Served.{Served}
 use Rattle.step_local.specs.declared.frames.Stage.{Stage}
 use Rattle.step_local.specs.declared.frames.Tried.{Tried}
 use Rattle.step_local.specs.Frames.{no_object}
 use Rattle.step_local.specs.Answers.{gone, answered, got_of, usable_of, ending, not_held_as}
 use Rattle.step_local.specs.Leaving.{leaving_as}
+use Rattle.step_local.specs.Resetting.{resetting, heap_on}
 use Rattle.step_local.specs.Slabs.{getting_small}
 
 -- a seat's grants have numbers up to this
@@ -158,6 +163,20 @@ begun_as l Request.Exit = begun_leave l
 abbrev pub asked_for : Local → Request → Local
 asked_for l request = record l { call = record l.call { request = request } }
 
+-- a reset of a heap that keeps nothing makes no step
+abbrev pub heap_begun : Local → Leaving → Local
+heap_begun l Leaving.Nothing = ready l Answer.Exited
+heap_begun l (Leaving.Cached slab) = (heap_on l None).0
+heap_begun l (Leaving.Unused kept) = (heap_on l None).0
+heap_begun l (Leaving.Held kept) = (heap_on l None).0
+
+abbrev pub pool_begun : Local → Local
+pool_begun l = record l { fetch = record l.fetch { class = 0 }; at = At.Adopt AdoptAt.Take }
+
+abbrev pub reset_begun_as : Local → Reset → Local
+reset_begun_as l Reset.Heap = heap_begun (resetting l (ResetStage.Heap None)) (next_to_leave l.heap)
+reset_begun_as l Reset.Pool = pool_begun (resetting l (ResetStage.Orphans None))
+
 -- a call begins where none is begun
 abbrev pub is_idle : At → Bool
 is_idle At.Idle = true
@@ -167,3 +186,7 @@ abbrev pub begun : Local → Request → Local × Result Unit InCall
 begun l request = cond (is_idle l.at)
     (begun_as (asked_for l request) request, Ok tt)
     (l, Err (record { seat = l.seat }))
+
+-- and so does a reset
+abbrev pub reset_begun : Local → Reset → Local × Result Unit InCall
+reset_begun l reset = cond (is_idle l.at) (reset_begun_as l reset, Ok tt) (l, Err (record { seat = l.seat }))

@@ -37,6 +37,7 @@ use Rattle.step_local.specs.declared.frames.PutFor.{PutFor}
 use Rattle.step_local.specs.declared.frames.Served.{Served}
 use Rattle.step_local.specs.declared.frames.SmallAt.{SmallAt}
 use Rattle.step_local.specs.declared.frames.Stage.{Stage}
+use Rattle.step_local.specs.Frames.{last_cache_bin}
 use Rattle.step_local.specs.Answers.{gone, waiting, answered, ended, got}
 use Rattle.step_local.specs.Leaving.{putting, asking}
 use Rattle.step_local.specs.Slabs.{locating}
@@ -53,10 +54,6 @@ alignment_of_served (Served.Large granules alignment) = alignment
 -- at each tick that is a multiple of this a regular cleanup is made
 abbrev pub cleanup_ticks : ℕ
 cleanup_ticks = 256
-
--- the last bin of the cache
-abbrev pub last_cache_bin : ℕ
-last_cache_bin = 1023
 
 -- all blocks of the cache are looked through, from the bin of one granule on
 abbrev pub sweeping : Local → Cleanup → SweepAt → Local × Turn
@@ -78,6 +75,7 @@ cached_at l Stage.Ending = ended l
 cached_at l Stage.Replacing = ended l
 cached_at l Stage.Undoing = ended l
 cached_at l Stage.Leaving = ended l
+cached_at l (Stage.Resetting stage) = ended l
 
 abbrev pub cached : Local → Local × Turn
 cached l = cached_at l l.call.stage
@@ -207,6 +205,7 @@ tick_at l Stage.Ending = gone l (At.Keep KeepAt.Lock)
 tick_at l Stage.Replacing = gone l (At.Keep KeepAt.Lock)
 tick_at l Stage.Undoing = gone l (At.Keep KeepAt.Lock)
 tick_at l Stage.Leaving = gone l (At.Keep KeepAt.Lock)
+tick_at l (Stage.Resetting stage) = gone l (At.Keep KeepAt.Lock)
 
 abbrev pub large_learn : Local → LargeAt → ℕ → Local × Turn
 large_learn l LargeAt.Tick f =

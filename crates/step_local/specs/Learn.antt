@@ -7,10 +7,13 @@ use Rattle.word_codes.specs.Links.{link_of}
 use Rattle.step_local.specs.declared.frames.At.{At}
 use Rattle.step_local.specs.declared.frames.Local.{Local}
 use Rattle.step_local.specs.Answers.{answered}
-use Rattle.step_local.specs.Backend.{scan_learn_of, cut_learn_of, queue_as, whole_learn_of, drain_learn_of, put_learn_of, office_learn_of}
-use Rattle.step_local.specs.Large.{get_learn_of, undo_learn_of, keep_learn_of, sweep_learn_of, large_learn, locate_learn}
+use Rattle.step_local.specs.Backend.{scan_learn_of, cut_learn_of, queue_as, whole_learn_of, drain_learn_of}
+use Rattle.step_local.specs.Backend.{put_learn_of, office_learn_of}
+use Rattle.step_local.specs.Large.{get_learn_of, undo_learn_of, keep_learn_of, sweep_learn_of, large_learn}
+use Rattle.step_local.specs.Large.{locate_learn}
 use Rattle.step_local.specs.Leaving.{leave_learn_of}
 use Rattle.step_local.specs.Objects.{look_learn_of, end_learn_of, post_learn_of, mail_learn_of}
+use Rattle.step_local.specs.Resetting.{reset_learn_of}
 use Rattle.step_local.specs.Slabs.{box_learn_of, adopt_learn_of, join_learn_of, spare_learn_of, small_learn}
 
 abbrev pub learn_at : Local → At → Seen → Local × Turn
@@ -39,6 +42,7 @@ learn_at l (At.Whole at) s = whole_learn_of l at (word_seen s)
 learn_at l (At.Drain at) s = drain_learn_of l at (word_seen s)
 learn_at l (At.Put at) s = put_learn_of l at (word_seen s)
 learn_at l (At.Office job at) s = office_learn_of l job at s
+learn_at l (At.Reset at) s = reset_learn_of l at (word_seen s)
 
 abbrev pub learn : Local → Seen → Local × Turn
 learn l s = learn_at l l.at s

@@ -14,7 +14,7 @@ use Rattle.heap_slabs.specs.declared.records.HeapSlab.{HeapSlab}
 use Rattle.heap_slabs.specs.declared.heap.Leaving.{Leaving}
 use Rattle.heap_slabs.specs.Heaps.{next_to_leave}
 use Rattle.heap_slabs.specs.Records.{to_header}
-use Rattle.heap_slabs.specs.Slabs.{record_at, after_remove}
+use Rattle.heap_slabs.specs.Slabs.{Kept, record_at, after_remove}
 use Rattle.mailbox.specs.declared.boxes.BoxAt.{BoxAt}
 use Rattle.orphans.specs.declared.leaving.LeaveAt.{LeaveAt}
 use Rattle.orphans.specs.declared.leaving.LeaveCall.{LeaveCall}
@@ -27,6 +27,10 @@ use Rattle.step_local.specs.declared.frames.SmallAt.{SmallAt}
 use Rattle.step_local.specs.declared.frames.Tries.{Tries}
 use Rattle.step_local.specs.Frames.{no_block}
 use Rattle.step_local.specs.Answers.{gone, answered}
+
+-- the local with other slabs
+abbrev pub with_slabs : Local → Kept → Local
+with_slabs l slabs = record l { heap = record l.heap { slabs = slabs } }
 
 -- the block of a slab
 abbrev pub slab_block : ℕ → Block

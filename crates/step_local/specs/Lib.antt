@@ -1,6 +1,7 @@
 pub mod Frames
 pub mod Answers
 pub mod Leaving
+pub mod Resetting
 pub mod Slabs
 pub mod Large
 pub mod Backend

@@ -31,7 +31,8 @@ use Rattle.step_local.specs.declared.frames.Local.{Local}
 use Rattle.step_local.specs.declared.frames.SmallAt.{SmallAt}
 use Rattle.step_local.specs.declared.frames.Stage.{Stage}
 use Rattle.step_local.specs.Frames.{no_block}
-use Rattle.step_local.specs.Answers.{gone, answered, usable_of, not_held_as, slab_of, ended_object, end_call, ending, ended, lost_end}
+use Rattle.step_local.specs.Answers.{gone, answered, usable_of, not_held_as, slab_of, ended_object, end_call, ending}
+use Rattle.step_local.specs.Answers.{ended, lost_end}
 use Rattle.step_local.specs.Getting.{decided}
 
 -- what a look is for

@@ -31,9 +31,15 @@ use Rattle.public_list.specs.declared.joining.JoinAt.{JoinAt}
 use Rattle.public_list.specs.declared.looking.LookAt.{LookAt}
 use Rattle.public_list.specs.declared.posting.PostAt.{PostAt}
 use Rattle.region_steps.specs.declared.office.OfficeAt.{OfficeAt}
+use Rattle.reset_steps.specs.declared.clear.ClearAt.{ClearAt}
+use Rattle.reset_steps.specs.declared.evict.EvictAt.{EvictAt}
+use Rattle.reset_steps.specs.declared.strip.StripAt.{StripAt}
+use Rattle.reset_steps.specs.declared.unite.UniteAt.{UniteAt}
+use Rattle.reset_steps.specs.declared.unqueue.UnqueueAt.{UnqueueAt}
 use Rattle.step_local.specs.declared.frames.At.{At}
 use Rattle.step_local.specs.declared.frames.LargeAt.{LargeAt}
 use Rattle.step_local.specs.declared.frames.LocateAt.{LocateAt}
+use Rattle.step_local.specs.declared.frames.ResetAt.{ResetAt}
 use Rattle.step_local.specs.declared.frames.SmallAt.{SmallAt}
 
 abbrev pub look_row : LookAt → Row
@@ -273,6 +279,42 @@ office_row (OfficeAt.Remove given) = Row.F4
 office_row (OfficeAt.Back end) = Row.F10
 office_row (OfficeAt.Unlock end) = Row.F2
 
+abbrev pub strip_row : StripAt → Row
+strip_row (StripAt.Mark object) = Row.M1
+strip_row (StripAt.End object mark) = Row.M4
+
+abbrev pub evict_row : EvictAt → Row
+evict_row (EvictAt.Kind granule) = Row.F7
+evict_row (EvictAt.Mark granule b line) = Row.M1
+evict_row (EvictAt.End granule b line mark) = Row.M6
+
+abbrev pub clear_row : ClearAt → Row
+clear_row (ClearAt.Peek number) = Row.C3
+clear_row ClearAt.Lock = Row.C1
+clear_row ClearAt.Head = Row.C3
+clear_row (ClearAt.Link block) = Row.C3
+clear_row ClearAt.Cut = Row.C7
+clear_row (ClearAt.Zero number) = Row.C4
+clear_row ClearAt.Unlock = Row.C2
+
+abbrev pub unqueue_row : UnqueueAt → Row
+unqueue_row UnqueueAt.Take = Row.Q4
+unqueue_row (UnqueueAt.Link first) = Row.Q5
+
+abbrev pub unite_row : UniteAt → Row
+unite_row (UniteAt.Size first) = Row.G7
+unite_row (UniteAt.Win b at) = win_row Side.Begin at
+unite_row (UniteAt.Unlink b at) = bin_row at
+
+abbrev pub reset_row : ResetAt → Row
+reset_row (ResetAt.Strip slab at) = strip_row at
+reset_row (ResetAt.Seek at) = Row.F5
+reset_row (ResetAt.Evict region at) = evict_row at
+reset_row (ResetAt.Clear granules at) = clear_row at
+reset_row (ResetAt.Unqueue at) = unqueue_row at
+reset_row (ResetAt.Unite region at) = unite_row at
+reset_row (ResetAt.Bin at) = bin_row at
+
 abbrev pub row_of : At → Row
 row_of At.Idle = Row.Nothing
 row_of (At.Ready answer) = Row.Nothing
@@ -299,6 +341,7 @@ row_of (At.Whole at) = bin_row at
 row_of (At.Drain at) = drain_row at
 row_of (At.Put at) = put_row at.step
 row_of (At.Office job at) = office_row at
+row_of (At.Reset at) = reset_row at
 
 -- whether the office was in its slot
 abbrev pub took_office : Seen → Bool

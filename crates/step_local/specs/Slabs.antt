@@ -9,7 +9,7 @@ use Rattle.heap_slabs.specs.declared.slabs.Wanted.{Wanted}
 use Rattle.heap_slabs.specs.Cached.{surplus_of}
 use Rattle.heap_slabs.specs.Records.{begun, has_object, of_header}
 use Rattle.heap_slabs.specs.Rolls.{after_push, newest_of, oldest_of, without_newest, without_oldest}
-use Rattle.heap_slabs.specs.Slabs.{Kept, record_at, first_of_class, after_add, after_remove, after_take_of, after_join_of}
+use Rattle.heap_slabs.specs.Slabs.{record_at, first_of_class, after_add, after_remove, after_take_of, after_join_of}
 use Rattle.public_list.specs.declared.joining.JoinAt.{JoinAt}
 use Rattle.public_list.specs.declared.joining.JoinCall.{JoinCall}
 use Rattle.public_list.specs.declared.joining.JoinNext.{JoinNext}
@@ -38,11 +38,8 @@ use Rattle.step_local.specs.declared.frames.SmallAt.{SmallAt}
 use Rattle.step_local.specs.declared.frames.Stage.{Stage}
 use Rattle.step_local.specs.declared.frames.Tried.{Tried}
 use Rattle.step_local.specs.Answers.{gone, waiting, answered, ended, got, head_at}
-use Rattle.step_local.specs.Leaving.{slab_block, putting, asking, leaving}
-
--- the local with other slabs, other cached slabs, or other spare orphans
-abbrev pub with_slabs : Local → Kept → Local
-with_slabs l slabs = record l { heap = record l.heap { slabs = slabs } }
+use Rattle.step_local.specs.Leaving.{with_slabs, slab_block, putting, asking, leaving}
+use Rattle.step_local.specs.Resetting.{binning, orphan_adopted, reset_on}
 
 -- the region of an index is looked up, from the first slot on
 abbrev pub locating : Local → Local × Turn
@@ -88,6 +85,7 @@ fetched_at l Stage.Looking = answered l Answer.Exited
 fetched_at l Stage.Ending = answered l Answer.Exited
 fetched_at l Stage.Replacing = answered l Answer.Exited
 fetched_at l Stage.Undoing = answered l Answer.Exited
+fetched_at l (Stage.Resetting stage) = reset_on l stage
 
 abbrev pub fetched : Local → Local × Turn
 fetched l = fetched_at l l.call.stage
@@ -161,8 +159,22 @@ abbrev pub adopting_on : Local → Bool → Option ℕ → Local × Turn
 adopting_on l enough None = fetched l
 adopting_on l enough (Some slab) = gone l (At.Adopt (cond enough (AdoptAt.Spare slab) (AdoptAt.Header slab)))
 
+abbrev pub adopts_enough : Local → ℕ → Bool
+adopts_enough l slab = gives_object (record_at l.heap.slabs.records slab)
+
+-- a reset adopts all of them, one by one
+abbrev pub adopted_at : Local → ℕ → Option ℕ → Stage → Local × Turn
+adopted_at l slab rest Stage.Idle = adopting_on l (adopts_enough l slab) rest
+adopted_at l slab rest Stage.Looking = adopting_on l (adopts_enough l slab) rest
+adopted_at l slab rest Stage.Getting = adopting_on l (adopts_enough l slab) rest
+adopted_at l slab rest Stage.Ending = adopting_on l (adopts_enough l slab) rest
+adopted_at l slab rest Stage.Replacing = adopting_on l (adopts_enough l slab) rest
+adopted_at l slab rest Stage.Undoing = adopting_on l (adopts_enough l slab) rest
+adopted_at l slab rest Stage.Leaving = adopting_on l (adopts_enough l slab) rest
+adopted_at l slab rest (Stage.Resetting stage) = orphan_adopted l slab rest
+
 abbrev pub slab_adopted : Local → ℕ → Option ℕ → Local × Turn
-slab_adopted l slab rest = adopting_on l (gives_object (record_at l.heap.slabs.records slab)) rest
+slab_adopted l slab rest = adopted_at l slab rest l.call.stage
 
 abbrev pub join_call : Local → ℕ → JoinCall
 join_call l slab = record { slab = slab; head = head_at l slab }
@@ -213,18 +225,21 @@ emptied_at l slab Stage.Looking = gone l (At.Small (SmallAt.Cache slab))
 emptied_at l slab Stage.Ending = gone l (At.Small (SmallAt.Cache slab))
 emptied_at l slab Stage.Replacing = gone l (At.Small (SmallAt.Cache slab))
 emptied_at l slab Stage.Undoing = gone l (At.Small (SmallAt.Cache slab))
+emptied_at l slab (Stage.Resetting stage) = binning l stage (slab_block slab)
 
 abbrev pub slab_emptied : Local → ℕ → Local × Turn
 slab_emptied l slab = emptied_at (with_slabs l (after_remove l.heap.slabs slab)) slab l.call.stage
 
-abbrev pub why_newest : Stage → PutFor
-why_newest Stage.Leaving = PutFor.Left
-why_newest Stage.Getting = PutFor.Emptied
-why_newest Stage.Idle = PutFor.Emptied
-why_newest Stage.Looking = PutFor.Emptied
-why_newest Stage.Ending = PutFor.Emptied
-why_newest Stage.Replacing = PutFor.Emptied
-why_newest Stage.Undoing = PutFor.Emptied
+-- the newest cached slab is given up
+abbrev pub newest_given : Local → ℕ → Stage → Local × Turn
+newest_given l slab Stage.Leaving = putting l PutFor.Left (slab_block slab)
+newest_given l slab Stage.Getting = putting l PutFor.Emptied (slab_block slab)
+newest_given l slab Stage.Idle = putting l PutFor.Emptied (slab_block slab)
+newest_given l slab Stage.Looking = putting l PutFor.Emptied (slab_block slab)
+newest_given l slab Stage.Ending = putting l PutFor.Emptied (slab_block slab)
+newest_given l slab Stage.Replacing = putting l PutFor.Emptied (slab_block slab)
+newest_given l slab Stage.Undoing = putting l PutFor.Emptied (slab_block slab)
+newest_given l slab (Stage.Resetting stage) = binning l stage (slab_block slab)
 
 abbrev pub slab_begun : Local → ℕ → Local × Turn
 slab_begun l slab = locating (record l {
@@ -260,6 +275,6 @@ small_learn l (SmallAt.Oldest slab) f = putting (record l {
   heap = record l.heap { cached = without_oldest l.heap.cached };
   call = record l.call { surplus = l.call.surplus - 1 };
 }) PutFor.Surplus (slab_block slab)
-small_learn l (SmallAt.Newest slab) f = putting (record l {
+small_learn l (SmallAt.Newest slab) f = newest_given (record l {
   heap = record l.heap { cached = without_newest l.heap.cached };
-}) (why_newest l.call.stage) (slab_block slab)
+}) slab l.call.stage

@@ -1,7 +1,11 @@
 //! Asking the backend for a piece, and putting blocks.
 
 ghost use Rattle.std.specs.Prelude.{◌≡◌};
-ghost use Rattle.step_local.specs.Backend.{bin_waits, asked, nothing_as, looks_of, cause_of, in_vain, softened, cut_call, cut_as, cutting, cut_learn_of, scan_learn_of, queue_as, whole_call, whole_learn_of, no_piece, obtained, obtained_as, put_done, put_learn_of, drain_call, drained_as, drain_learn_of, drained_on, office_call, office_job, office_left, office_learn_of};
+ghost use Rattle.step_local.specs.Backend.{asked, nothing_as, looks_of, cause_of, in_vain, softened, cut_call};
+ghost use Rattle.step_local.specs.Backend.{cut_as, cutting, cut_learn_of, scan_learn_of, queue_as, whole_call};
+ghost use Rattle.step_local.specs.Backend.{whole_learn_of, no_piece, obtained, obtained_as, put_done, put_learn_of};
+ghost use Rattle.step_local.specs.Backend.{drain_call, drained_as, drain_learn_of, drained_on, office_call};
+ghost use Rattle.step_local.specs.Backend.{office_job, office_left, office_learn_of};
 
 use crate::frames::{At, Local, OfficeFor, PutFor, Served, SmallAt, Tries};
 use backend_bins::blocks::LAST_BIN;
@@ -39,14 +43,6 @@ fn cause_of(want: Want, seen: u64, refused: Option<ObtainError>) -> NullCause
 }
 
 impl Local {
-    /// Another has this bin's lock.
-    fn waits_for_bin(&mut self, at: At, bin: u64) -> Turn
-        ensures { (self.new, result) ≡ bin_waits self.old at bin }
-    {
-        let bin = (bin % 65536) as u16;
-        self.waits(at, Awaited::BinLock(bin))
-    }
-
     /// The backend gave the piece.
     fn has_asked(&mut self) -> Turn
         ensures { (self.new, result) ≡ asked self.old }

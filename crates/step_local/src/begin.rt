@@ -1,11 +1,17 @@
 //! How a call begins, and how an object is got in another's place.
 
 ghost use Rattle.std.specs.Prelude.{◌≡◌};
-ghost use Rattle.step_local.specs.Getting.{good_of, served_as, refusal_of, getting_as, getting, getting_or_null, suits_alignment, stays, decided, ready, begun_get, is_looked_at, looking_at, begun_look, begun_leave, begun_realloc, begun_aligned, begun_at, begun_as, begun};
+ghost use Rattle.step_local.specs.Getting.{good_of, served_as, refusal_of, getting_as, getting, getting_or_null};
+ghost use Rattle.step_local.specs.Getting.{suits_alignment, stays, decided, ready, begun_get, is_looked_at};
+ghost use Rattle.step_local.specs.Getting.{looking_at, begun_look, begun_leave, begun_realloc, begun_aligned};
+ghost use Rattle.step_local.specs.Getting.{begun_at, begun_as, begun};
+ghost use Rattle.step_local.specs.Getting.{heap_begun, pool_begun, reset_begun_as, reset_begun};
+ghost use Rattle.heap_slabs.specs.Heaps.{next_to_leave};
 
-use crate::frames::{At, LargeAt, Local, Object, Served, Stage, Tried};
+use crate::frames::{At, LargeAt, Local, Object, Reset, ResetStage, Served, Stage, Tried};
 use crate::objects::{not_held_as, usable_of};
 use heap_slabs::Leaving;
+use orphans::AdoptAt;
 use pool_types::limits::REGION_NUMBERS;
 use pool_types::{Answer, Found, InCall, NullCause, Place, Request, Turn};
 use public_list::LookAt;
@@ -253,6 +259,57 @@ impl Local {
             At::Idle => {
                 self.call.request = request;
                 self.begins_as(request);
+                Ok(())
+            }
+            _ => Err(InCall { seat: self.seat }),
+        }
+    }
+
+    /// A heap that keeps nothing makes no step.
+    fn begins_heap(&mut self)
+        ensures { self.new ≡ heap_begun self.old (next_to_leave self.old.heap) }
+    {
+        match self.heap.next_to_leave() {
+            Leaving::Nothing => self.is_ready(Answer::Exited),
+            _ => {
+                let _ = self.gives_heap(None);
+            }
+        }
+    }
+
+    fn begins_pool(&mut self)
+        ensures { self.new ≡ pool_begun self.old }
+    {
+        self.fetch.class = 0;
+        self.at = At::Adopt(AdoptAt::Take);
+    }
+
+    fn resets_as(&mut self, reset: Reset)
+        ensures { self.new ≡ reset_begun_as self.old reset }
+    {
+        match reset {
+            Reset::Heap => {
+                self.is_resetting(ResetStage::Heap { class: None });
+                self.begins_heap();
+            }
+            Reset::Pool => {
+                self.is_resetting(ResetStage::Orphans { rest: None });
+                self.begins_pool();
+            }
+        }
+    }
+
+    /// Begins a reset, which goes on by turns as a call does; its last turn is done with `Exited`, the answer of a
+    /// heap that keeps nothing any more. It is for a pool of which no seat has a call: first the heap of each seat,
+    /// and then, as any one seat, all else. The clock, the seats' numbers and the regions stand.
+    ///
+    /// `InCall` is the answer exactly where the seat has a call, or a reset, that is not done; then nothing changes.
+    pub fn begin_reset(&mut self, reset: Reset) -> Result<(), InCall>
+        ensures { (self.new, result) ≡ reset_begun self.old reset }
+    {
+        match self.at {
+            At::Idle => {
+                self.resets_as(reset);
                 Ok(())
             }
             _ => Err(InCall { seat: self.seat }),

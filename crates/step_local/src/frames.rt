@@ -14,8 +14,9 @@ use pool_words::Key;
 use public_list::{EndAt, JoinAt, LookAt, PostAt};
 use region_steps::OfficeAt;
 use regions::ObtainError;
+use reset_steps::{ClearAt, EvictAt, SeekAt, StripAt, UniteAt, UnqueueAt};
 use std::alloc::{AllocError, Global};
-use word_codes::Kind;
+use word_codes::{Kind, RegionWord};
 
 /// How far a call has come.
 #[derive(Clone, Copy)]
@@ -34,6 +35,34 @@ pub enum Stage {
     Undoing,
     /// The heap gives up all that it keeps.
     Leaving,
+    /// The pool is reset, while no seat has a call.
+    Resetting(ResetStage),
+}
+
+/// What a seat resets: the slabs that its heap keeps, or all else that the pool has. A pool is reset by each seat's
+/// heap first, and then, as any one seat, by all else.
+#[derive(Clone, Copy)]
+pub enum Reset {
+    Heap,
+    Pool,
+}
+
+/// How far a reset has come: what is next once the block in hand is in its bin.
+#[derive(Clone, Copy)]
+pub enum ResetStage {
+    /// Slabs of the heap: of the class whose mailbox was taken last, and then of the next class with one.
+    Heap { class: Option<u8> },
+    /// Slabs that nobody kept, of the class that is fetched: the one that this links to, and then those of the next
+    /// class.
+    Orphans { rest: Option<u64> },
+    /// Large objects of a region, from this granule on.
+    Large { region: RegionWord, granule: u64 },
+    /// The blocks of the cache that were taken out of the bin of so many granules.
+    Cache { granules: u64 },
+    /// The blocks that were taken from the queue, from this one on.
+    Queue { rest: Option<u64> },
+    /// Regions with numbers below this one.
+    Regions { below: u64 },
 }
 
 /// An object: the number of its region, its offset there, the unit at which it begins, its mark's word, and what it
@@ -76,7 +105,7 @@ pub struct Call {
     pub tried: Tried,
     /// The slab that gives the object.
     pub slab: u64,
-    /// The large block in hand: the one that is got, or the one of the object that was freed.
+    /// The block in hand: the large one that is got, the one of the object that was freed, or one that a reset frees.
     pub block: Block,
     /// The cache had no such block.
     pub missed: bool,
@@ -232,6 +261,25 @@ pub enum LargeAt {
     Grant { unit: u64 },
 }
 
+/// The positions of a reset that no call has.
+#[derive(Clone, Copy)]
+pub enum ResetAt {
+    /// The objects of a slab that the heap keeps are freed.
+    Strip { slab: u64, at: StripAt },
+    /// The next region is looked for: of its large objects, or to be united.
+    Seek(SeekAt),
+    /// The large objects of a region are taken.
+    Evict { region: RegionWord, at: EvictAt },
+    /// The cache bin of so many granules comes back to its first state.
+    Clear { granules: u64, at: ClearAt },
+    /// The queue is emptied.
+    Unqueue(UnqueueAt),
+    /// The blocks of a region are united.
+    Unite { region: RegionWord, at: UniteAt },
+    /// The block in hand, which is the call's, is put into its bin.
+    Bin(BinAt),
+}
+
 /// The step that comes next.
 #[derive(Clone, Copy)]
 pub enum At {
@@ -279,6 +327,7 @@ pub enum At {
         job: OfficeFor,
         at: OfficeAt,
     },
+    Reset(ResetAt),
 }
 
 /// One seat's part of a pool. The fields are public so that contracts see a local as its fields, and so that the same
@@ -300,6 +349,9 @@ pub struct Local {
     pub put: PutFor,
     pub at: At,
 }
+
+/// The last bin of the cache.
+pub const LAST_CACHE_BIN: u64 = 1023;
 
 /// The most blocks that a cleanup takes out of a bin.
 const MOST_RELEASED: usize = 64;

@@ -1,10 +1,15 @@
 //! Large objects: ticks, the cache, cleanups, and where an object lies in its block.
 
 ghost use Rattle.std.specs.Prelude.{◌≡◌};
-ghost use Rattle.step_local.specs.Large.{granules_of_served, sweeping, got_block, cached, ticked, swept, emptying, next_bin, releasing, sweep_call, sweep_learn_of, cache_call, get_learn_of, undo_learn_of, keep_call, kept_as, keep_learn_of, large_learn, object_in, located_index, slot_looked, locate_learn, located_as};
+ghost use Rattle.step_local.specs.Large.{granules_of_served, sweeping, got_block, cached, ticked, swept, emptying};
+ghost use Rattle.step_local.specs.Large.{next_bin, releasing, sweep_call, sweep_learn_of, cache_call, get_learn_of};
+ghost use Rattle.step_local.specs.Large.{undo_learn_of, keep_call, kept_as, keep_learn_of, large_learn, object_in};
+ghost use Rattle.step_local.specs.Large.{located_index, slot_looked, locate_learn, located_as};
 ghost use Rattle.heap_slabs.specs.Slabs.{record_at};
 
-use crate::frames::{At, LargeAt, Local, LocateAt, PutFor, Served, SmallAt, Stage, Sweep};
+use crate::frames::{
+    At, LAST_CACHE_BIN, LargeAt, Local, LocateAt, PutFor, Served, SmallAt, Stage, Sweep,
+};
 use backend_bins::{Block, Want};
 use coalescer::DrainAt;
 use heap_slabs::Wanted;
@@ -18,9 +23,6 @@ use word_codes::RegionWord;
 
 /// At each tick that is a multiple of this a regular cleanup is made.
 const CLEANUP_TICKS: u64 = 256;
-
-/// The last bin of the cache.
-const LAST_CACHE_BIN: u64 = 1023;
 
 /// The last slot of a region.
 const LAST_SLOT: u64 = 63;

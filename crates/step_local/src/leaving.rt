@@ -1,7 +1,8 @@
 //! Leaving: a heap gives up all that it keeps, and what asks the backend and puts blocks begin with.
 
 ghost use Rattle.std.specs.Prelude.{◌≡◌};
-ghost use Rattle.step_local.specs.Leaving.{slab_block, putting, gives_back, put_call, scan_call, scanning, asking, leaving, leave_call, class_at, awaiting, leave_learn_of};
+ghost use Rattle.step_local.specs.Leaving.{slab_block, putting, gives_back, put_call, scan_call, scanning, asking};
+ghost use Rattle.step_local.specs.Leaving.{leaving, leave_call, class_at, awaiting, leave_learn_of};
 
 use crate::frames::{Ask, At, Local, PutFor, SmallAt, Tries};
 use backend_bins::{Block, ScanCall, Want};

@@ -11,7 +11,7 @@
 //! and what
 //! follows from what it found), and for each part of a call where its jobs go on: `objects` (looks, ends and answers),
 //! `slabs` (small objects), `large` (large objects and the cache), `backend` (asking for blocks, and putting them),
-//! `leaving`; `rows` (the kind of step of each position).
+//! `leaving`, `resetting`; `rows` (the kind of step of each position).
 #![tactic(auto)]
 
 mod backend;
@@ -21,12 +21,13 @@ mod large;
 mod leaving;
 mod next;
 mod objects;
+mod resetting;
 mod rows;
 mod slabs;
 mod told;
 
 pub use frames::{
-    Ask, At, Call, Fetch, LargeAt, Local, LocateAt, Object, OfficeFor, PutFor, Served, SmallAt,
-    Stage, Sweep, Tried, Tries,
+    Ask, At, Call, Fetch, LargeAt, Local, LocateAt, Object, OfficeFor, PutFor, Reset, ResetAt,
+    ResetStage, Served, SmallAt, Stage, Sweep, Tried, Tries,
 };
 pub use rows::{is_made, row_of};

@@ -86,6 +86,7 @@ impl Local {
             At::Drain(at) => at.next(self.drain_call()),
             At::Put(at) => at.next(self.put_call()),
             At::Office { job, at } => at.next(self.office_call(job)),
+            At::Reset(at) => self.next_reset(at),
         }
     }
 }

@@ -1,8 +1,12 @@
 //! Objects: what a look found, the ending of a grant, and the answers.
 
 ghost use Rattle.std.specs.Prelude.{◌≡◌};
-ghost use Rattle.step_local.specs.Answers.{gone, waiting, answered, usable_of, grant_of, place_of, got_of, not_held_as, slab_of, ended_object, head_at, end_call, end_by, ending, freed_as, ended_as, ended, lost_end, next_mark, kind_got, object_got, replaces, got};
-ghost use Rattle.step_local.specs.Objects.{look_reason, look_call, look_learn_of, held, end_learn_of, post_call, post_learn_of, mail_call, mail_learn_of, freed_own, block_in};
+ghost use Rattle.step_local.specs.Answers.{gone, waiting, bin_waits, answered, usable_of, grant_of, place_of, got_of};
+ghost use Rattle.step_local.specs.Answers.{not_held_as, slab_of, ended_object, head_at, end_call, end_by, ending};
+ghost use Rattle.step_local.specs.Answers.{freed_as, ended_as, ended, lost_end, next_mark, kind_got, object_got};
+ghost use Rattle.step_local.specs.Answers.{replaces, got};
+ghost use Rattle.step_local.specs.Objects.{look_reason, look_call, look_learn_of, held, end_learn_of, post_call};
+ghost use Rattle.step_local.specs.Objects.{post_learn_of, mail_call, mail_learn_of, freed_own, block_in};
 
 use crate::frames::{At, LargeAt, Local, Object, Served, SmallAt, Stage};
 use backend_bins::Block;
@@ -124,6 +128,14 @@ impl Local {
     {
         self.at = at;
         Turn::Waits(awaited)
+    }
+
+    /// Another has this bin's lock.
+    pub fn waits_for_bin(&mut self, at: At, bin: u64) -> Turn
+        ensures { (self.new, result) ≡ bin_waits self.old at bin }
+    {
+        let bin = (bin % 65536) as u16;
+        self.waits(at, Awaited::BinLock(bin))
     }
 
     /// The call has its answer.

@@ -1,10 +1,15 @@
-//! Which kind of step each position is, by the letter and number that a trace names it by, and whether a step counts as
-//! made.
+//! Which kind of step each position is, by the letter and number that a trace names it by, and whether a step counts
+//! as made.
 
 ghost use Rattle.std.specs.Prelude.{◌≡◌};
-ghost use Rattle.step_local.specs.Rows.{look_row, end_row, post_exchange_row, post_row, mail_row, join_row, box_row, adopt_row, leave_row, small_row, large_row, hit_row, get_row, undo_row, keep_row, sweep_row, insert_row, skip_row, remove_row, bin_row, win_row, scan_row, cut_row, queue_push_row, put_row, drain_row, office_row, row_of, is_made};
+ghost use Rattle.step_local.specs.Rows.{look_row, end_row, post_exchange_row, post_row, mail_row, join_row, box_row};
+ghost use Rattle.step_local.specs.Rows.{adopt_row, leave_row, small_row, large_row, hit_row, get_row, undo_row};
+ghost use Rattle.step_local.specs.Rows.{keep_row, sweep_row, insert_row, skip_row, remove_row, bin_row, win_row};
+ghost use Rattle.step_local.specs.Rows.{scan_row, cut_row, queue_push_row, put_row, drain_row, office_row, row_of};
+ghost use Rattle.step_local.specs.Rows.{is_made};
+ghost use Rattle.step_local.specs.Rows.{strip_row, evict_row, clear_row, unqueue_row, unite_row, reset_row};
 
-use crate::frames::{At, LargeAt, SmallAt};
+use crate::frames::{At, LargeAt, ResetAt, SmallAt};
 use backend_bins::{BinAt, CutAt, ScanStep};
 use chain_words::PushAt;
 use coalescer::{DrainAt, PutStep};
@@ -17,6 +22,7 @@ use pool_types::Row;
 use pool_words::{Action, Seen};
 use public_list::{EndAt, JoinAt, LookAt, PostAt};
 use region_steps::OfficeAt;
+use reset_steps::{ClearAt, EvictAt, StripAt, UniteAt, UnqueueAt};
 use word_codes::{Public, link_of};
 
 fn look_row(at: LookAt) -> Row
@@ -354,6 +360,70 @@ fn office_row(at: OfficeAt) -> Row
     }
 }
 
+fn strip_row(at: StripAt) -> Row
+    ensures { result ≡ strip_row at }
+{
+    match at {
+        StripAt::Mark { .. } => Row::M1,
+        StripAt::End { .. } => Row::M4,
+    }
+}
+
+fn evict_row(at: EvictAt) -> Row
+    ensures { result ≡ evict_row at }
+{
+    match at {
+        EvictAt::Kind { .. } => Row::F7,
+        EvictAt::Mark { .. } => Row::M1,
+        EvictAt::End { .. } => Row::M6,
+    }
+}
+
+fn clear_row(at: ClearAt) -> Row
+    ensures { result ≡ clear_row at }
+{
+    match at {
+        ClearAt::Peek(_) | ClearAt::Head | ClearAt::Link(_) => Row::C3,
+        ClearAt::Lock => Row::C1,
+        ClearAt::Cut => Row::C7,
+        ClearAt::Zero(_) => Row::C4,
+        ClearAt::Unlock => Row::C2,
+    }
+}
+
+fn unqueue_row(at: UnqueueAt) -> Row
+    ensures { result ≡ unqueue_row at }
+{
+    match at {
+        UnqueueAt::Take => Row::Q4,
+        UnqueueAt::Link { .. } => Row::Q5,
+    }
+}
+
+fn unite_row(at: UniteAt) -> Row
+    ensures { result ≡ unite_row at }
+{
+    match at {
+        UniteAt::Size { .. } => Row::G7,
+        UniteAt::Win { at, .. } => win_row(Side::Begin, at),
+        UniteAt::Unlink { at, .. } => bin_row(at),
+    }
+}
+
+fn reset_row(at: ResetAt) -> Row
+    ensures { result ≡ reset_row at }
+{
+    match at {
+        ResetAt::Strip { at, .. } => strip_row(at),
+        ResetAt::Seek(_) => Row::F5,
+        ResetAt::Evict { at, .. } => evict_row(at),
+        ResetAt::Clear { at, .. } => clear_row(at),
+        ResetAt::Unqueue(at) => unqueue_row(at),
+        ResetAt::Unite { at, .. } => unite_row(at),
+        ResetAt::Bin(at) => bin_row(at),
+    }
+}
+
 /// The kind of the step that a position makes; `Nothing` where it makes none.
 pub fn row_of(at: At) -> Row
     ensures { result ≡ row_of at }
@@ -382,11 +452,12 @@ pub fn row_of(at: At) -> Row
         At::Drain(at) => drain_row(at),
         At::Put(at) => put_row(at.step),
         At::Office { at, .. } => office_row(at),
+        At::Reset(at) => reset_row(at),
     }
 }
 
-/// Whether a step counts as made: an exchange that found another value does not, nor does a taking of an office that is
-/// out, nor what is no step.
+/// Whether a step counts as made: an exchange that found another value does not, nor does a taking of an office that
+/// is out, nor what is no step.
 pub fn is_made(action: Action, seen: Seen) -> bool
     ensures { result ≡ is_made action seen }
 {

@@ -1,8 +1,12 @@
 //! Small objects: where one is looked for, what comes by mail and of orphans, and slabs that begin and end.
 
 ghost use Rattle.std.specs.Prelude.{◌≡◌};
-ghost use Rattle.step_local.specs.Slabs.{locating, looking_on, getting_small, class_of_served, fetched, with_joined, mailed_on, slab_came, box_head, box_call, box_learn_of, spares_back, spared_on, adopt_call, adopt_learn_of, gives_object, adopting_on, slab_adopted, join_call, join_learn_of, spare_call, spare_learn_of, with_taken, surplus_left, slab_cached, slab_emptied, why_newest, slab_begun, below_in, small_learn};
-ghost use Rattle.heap_slabs.specs.Slabs.{record_at};
+ghost use Rattle.step_local.specs.Slabs.{locating, looking_on, getting_small, class_of_served, fetched, with_joined};
+ghost use Rattle.step_local.specs.Slabs.{mailed_on, slab_came, box_head, box_call, box_learn_of, spares_back};
+ghost use Rattle.step_local.specs.Slabs.{spared_on, adopt_call, adopt_learn_of, adopting_on, slab_adopted, join_call};
+ghost use Rattle.step_local.specs.Slabs.{join_learn_of, spare_call, spare_learn_of, with_taken, surplus_left};
+ghost use Rattle.step_local.specs.Slabs.{slab_cached, slab_emptied, newest_given, adopts_enough, slab_begun};
+ghost use Rattle.step_local.specs.Slabs.{below_in, small_learn};
 
 use crate::frames::{At, Local, LocateAt, PutFor, Served, SmallAt, Stage, Tried};
 use crate::leaving::slab_block;
@@ -15,15 +19,6 @@ use pool_types::geometry::SLAB_GRANULES;
 use pool_types::{Answer, Awaited, Turn};
 use public_list::{JoinAt, JoinCall, JoinNext};
 use word_codes::Mark;
-
-fn why_newest(stage: Stage) -> PutFor
-    ensures { result ≡ why_newest stage }
-{
-    match stage {
-        Stage::Leaving => PutFor::Left,
-        _ => PutFor::Emptied,
-    }
-}
 
 /// Where the mark of a private object leads.
 fn below_in(mark: Mark) -> Option<u64>
@@ -109,6 +104,7 @@ impl Local {
                 let awaited = (self.fetch.awaited % 4294967296) as u32;
                 self.waits(At::Mailbox(BoxAt::Take), Awaited::Mail(awaited))
             }
+            Stage::Resetting(stage) => self.resets_on(stage),
             _ => self.answers(Answer::Exited),
         }
     }
@@ -228,7 +224,7 @@ impl Local {
     }
 
     fn gives_object(&self, slab: u64) -> bool
-        ensures { result ≡ gives_object (record_at self.now.heap.slabs.records slab) }
+        ensures { result ≡ adopts_enough self.now slab }
     {
         match self.heap.slabs.find(slab) {
             Some(kept) => kept.has_object(),
@@ -236,11 +232,10 @@ impl Local {
         }
     }
 
-    /// An adopted slab has been joined: with an object it is the last one that is adopted.
-    fn has_adopted(&mut self, slab: u64, rest: Option<u64>) -> Turn
-        ensures { (self.new, result) ≡ slab_adopted self.old slab rest }
+    /// Another slab is adopted where this one is not enough, and else the others are spared.
+    fn adopts_on(&mut self, enough: bool, rest: Option<u64>) -> Turn
+        ensures { (self.new, result) ≡ adopting_on self.old enough rest }
     {
-        let enough = self.gives_object(slab);
         match rest {
             Some(slab) => {
                 if enough {
@@ -250,6 +245,20 @@ impl Local {
                 }
             }
             None => self.has_fetched(),
+        }
+    }
+
+    /// An adopted slab has been joined: with an object it is the last one that is adopted. A reset adopts all of them,
+    /// one by one.
+    fn has_adopted(&mut self, slab: u64, rest: Option<u64>) -> Turn
+        ensures { (self.new, result) ≡ slab_adopted self.old slab rest }
+    {
+        match self.call.stage {
+            Stage::Resetting(_) => self.has_adopted_orphan(slab, rest),
+            _ => {
+                let enough = self.gives_object(slab);
+                self.adopts_on(enough, rest)
+            }
         }
     }
 
@@ -335,7 +344,19 @@ impl Local {
         match self.call.stage {
             Stage::Getting => self.puts(PutFor::Emptied, slab_block(slab)),
             Stage::Leaving => self.puts(PutFor::Left, slab_block(slab)),
+            Stage::Resetting(stage) => self.bins(stage, slab_block(slab)),
             _ => self.goes(At::Small(SmallAt::Cache { slab })),
+        }
+    }
+
+    /// The newest cached slab is given up.
+    fn gives_newest(&mut self, slab: u64) -> Turn
+        ensures { (self.new, result) ≡ newest_given self.old slab self.old.call.stage }
+    {
+        match self.call.stage {
+            Stage::Leaving => self.puts(PutFor::Left, slab_block(slab)),
+            Stage::Resetting(stage) => self.bins(stage, slab_block(slab)),
+            _ => self.puts(PutFor::Emptied, slab_block(slab)),
         }
     }
 
@@ -381,8 +402,7 @@ impl Local {
             }
             SmallAt::Newest { slab } => {
                 self.heap.cached.unshelve_newest();
-                let why = why_newest(self.call.stage);
-                self.puts(why, slab_block(slab))
+                self.gives_newest(slab)
             }
         }
     }

@@ -42,6 +42,7 @@ impl Local {
             At::Drain(at) => self.told_drain(at, found),
             At::Put(at) => self.told_put(at, found),
             At::Office { job, at } => self.told_office(job, at, seen),
+            At::Reset(at) => self.told_reset(at, found),
         }
     }
 }
