@@ -1,0 +1,11 @@
+pub mod Away
+pub mod Resets
+pub mod Small
+pub mod Large
+pub mod Backend
+pub mod Begun
+pub mod Elsewhere
+pub mod Onward
+pub mod Ordered
+pub mod Desks
+pub mod CallerLemmas

@@ -1,0 +1,5 @@
+pub mod Places
+pub mod Entries
+pub mod Runs
+pub mod Callbacks
+pub mod Laws
