@@ -1,0 +1,11 @@
+pub mod Objects
+pub mod Slabs
+pub mod Backend
+pub mod Large
+pub mod Office
+pub mod Resets
+pub mod Positions
+pub mod Moves
+pub mod Journal
+pub mod Tallies
+pub mod Laws

@@ -1,0 +1,4 @@
+pub mod Shifts
+pub mod Places
+pub mod Chains
+pub mod Parts
