@@ -1,0 +1,16 @@
+-- What is left from here decides.
+use Rattle.std.proofs.Common.{◌≡◌}
+use Rattle.word_totals.specs.Counting.{with_granules}
+use Rattle.word_totals.proofs.counting.with_granules.Given as goal
+
+abbrev pub decreases-loop-left : goal.decreases-loop-left
+decreases-loop-left g l = l.left
+
+abbrev pub invariant-loop-left : goal.invariant-loop-left
+invariant-loop-left g l =
+    let still = g.P.AtRest.still in
+    record {
+      rest : with_granules (still l.fn.pool) l.granules l.first l.fn.before ≡
+          with_granules (still l.pool) l.left l.granule l.totals;
+      same : still l.pool ≡ still l.fn.pool;
+    }

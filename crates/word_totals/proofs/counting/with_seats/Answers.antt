@@ -1,0 +1,15 @@
+-- One turn of the loop is one turn of its definition.
+use Rattle.word_totals.proofs.Steps.{with_seats-next}
+use Rattle.word_totals.proofs.counting.with_seats.Goals as goal
+
+pub loop-left-preserved : goal.loop-left-preserved
+loop-left-preserved g c =
+    let still = g.P.AtRest.still (c.loop-left.pool) in
+    let step = with_seats-next still c.loop-left.left c.loop-left.seat c.loop-left.totals c.loop-left-test.true in
+    let kept = c.loop-left.invariant.rest in
+    let same = c.loop-left.invariant.same in
+    let found = c.amid-amid.ensures in
+    let exact = c.with_amid-totals.ensures.exact in
+    let call_same = c.with_amid-totals.ensures.same in
+    let seat = c.saturating_add-seat.ensures in
+    record { rest = cc; same = cc }

@@ -1,0 +1,9 @@
+pub mod Blocks
+pub mod Caching
+pub mod Chains
+pub mod Counting
+pub mod Leaking
+pub mod Middle
+pub mod Objects
+pub mod Reading
+pub mod Slabs
