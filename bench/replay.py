@@ -1,5 +1,6 @@
 #!/usr/bin/env python3
-"""Times the built program on traces of many calls, and prints lines a second and the peak of the memory of each run.
+"""Times the built program on traces of the most lines, and prints for each the time and the processor's time in
+milliseconds, and the peak of the memory.
 
 Run it at the top of the repository after .ci/run: python3 bench/replay.py [PROGRAM]
 """
@@ -9,7 +10,8 @@ import sys
 import tempfile
 import time
 
-LINES = 60000
+# With the two lines before them a trace has as many lines as it may.
+LINES = 65534
 PROGRAM = "crates/poolreplay/out/poolreplay"
 
 
@@ -44,18 +46,30 @@ def frees(most, held):
     return "\n".join(lines) + "\n"
 
 
+def peak_of(pid):
+    """The peak of the memory of the process so far, in KiB. What the system tells of it later counts this script in."""
+    with open(f"/proc/{pid}/status") as status:
+        for line in status:
+            if line.startswith("VmHWM:"):
+                return int(line.split()[1])
+    return 0
+
+
 def run(program, text):
-    """The seconds that the program takes on the trace, its status, what it writes, and the peak of its memory in KiB."""
+    """The seconds that the program takes on the trace, those of the processor, its status, what it writes, and the peak
+    of its memory in KiB: it is read when the report begins to come, since that is made whole before it is written."""
     with tempfile.TemporaryFile("w+") as source:
         source.write(text)
         source.seek(0)
         start = time.perf_counter()
         with subprocess.Popen([program, "replay"], stdin=source, stdout=subprocess.PIPE, text=True) as process:
-            report = process.stdout.read()
+            first = process.stdout.read(1)
+            peak = peak_of(process.pid)
+            report = first + process.stdout.read()
             _, status, usage = os.wait4(process.pid, 0)
             process.returncode = os.waitstatus_to_exitcode(status)
         seconds = time.perf_counter() - start
-    return seconds, process.returncode, report, usage.ru_maxrss
+    return seconds, usage.ru_utime + usage.ru_stime, process.returncode, report, peak
 
 
 def main():
@@ -68,9 +82,10 @@ def main():
         ("mallocs of 1 to 8128 and frees, a full pool", frees(8128, 20000)),
     ]
     for name, text in cases:
-        seconds, status, report, peak = run(program, text)
+        seconds, used, status, report, peak = run(program, text)
         counts = ", ".join(f"{report.count(f' {word}')} {word}" for word in ("got", "null", "freed"))
-        print(f"{name}: status {status}, {counts}, {LINES / seconds:.0f} lines a second, peak {peak} KiB")
+        times = f"{1000 * seconds:.0f} ms, {1000 * used:.0f} ms of the processor"
+        print(f"{name}: status {status}, {counts}, {times}, peak {peak} KiB")
 
 
 if __name__ == "__main__":

@@ -1,0 +1,3 @@
+mod AllRegions
+mod FirstRegions
+mod StepsAt

@@ -1,0 +1,7 @@
+use Rattle.std.proofs.Common.{◌≡◌, ◌≤◌, length, take}
+use Rattle.pool_types.specs.Limits.{most_regions}
+use Rattle.step_core.specs.Endings.{all_kept}
+use Rattle.step_core.proofs.endings.keeps_all.Given as goal
+
+abbrev pub invariant-loop-one : goal.invariant-loop-one
+invariant-loop-one g l = l.destroyed ≡ all_kept (take l.one-index l.one-items)
