@@ -1,0 +1,3 @@
+mod Seats
+mod First
+mod Machines
