@@ -1,0 +1,14 @@
+pub mod Parts
+pub mod Seats
+pub mod Turns
+pub mod Facts
+pub mod EndRows
+pub mod PostRows
+pub mod JoinRows
+pub mod GrantRows
+pub mod SlabRows
+pub mod Words
+pub mod Looks
+pub mod Keeps
+pub mod Heads
+pub mod CallerLemmas

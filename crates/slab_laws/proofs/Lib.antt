@@ -1,0 +1,11 @@
+pub mod Maps
+pub mod Units
+pub mod Records
+pub mod OneSlab
+pub mod Heaps
+pub mod Steps
+pub mod Taking
+pub mod Caching
+pub mod Keeps
+pub mod Examples
+pub mod CallerLemmas
