@@ -1,0 +1,5 @@
+pub mod Looks
+pub mod Allowed
+pub mod Driving
+pub mod Asked
+pub mod Seats
