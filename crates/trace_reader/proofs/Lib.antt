@@ -15,5 +15,5 @@ pub mod OneLine
 pub mod OneText
 pub mod ServedLaws
 pub mod CallForms
-pub mod ReplayShape
+pub mod PlainShape
 pub mod NamesInTurn

@@ -31,15 +31,15 @@ use Rattle.trace_reader.specs.Options.{ReadsOptions}
 -- the lines whose first word is this are served
 abbrev pub serves_keyword : Forms → Keyword → Bool
 serves_keyword forms.All key = true
-serves_keyword forms.Replay ThreadsWord = true
-serves_keyword forms.Replay PoolWord = true
-serves_keyword forms.Replay RawWord = false
-serves_keyword forms.Replay BeginWord = false
-serves_keyword forms.Replay StepWord = false
-serves_keyword forms.Replay UpToWord = false
-serves_keyword forms.Replay FinishWord = false
-serves_keyword forms.Replay ResetWord = false
-serves_keyword forms.Replay DestroyWord = false
+serves_keyword forms.Plain ThreadsWord = true
+serves_keyword forms.Plain PoolWord = true
+serves_keyword forms.Plain RawWord = false
+serves_keyword forms.Plain BeginWord = false
+serves_keyword forms.Plain StepWord = false
+serves_keyword forms.Plain UpToWord = false
+serves_keyword forms.Plain FinishWord = false
+serves_keyword forms.Plain ResetWord = false
+serves_keyword forms.Plain DestroyWord = false
 serves_keyword forms.Threads ThreadsWord = true
 serves_keyword forms.Threads PoolWord = true
 serves_keyword forms.Threads RawWord = true
@@ -54,20 +54,20 @@ serves_keyword forms.Threads DestroyWord = false
 abbrev pub serves_call : Forms → CallWord → Bool
 serves_call forms.All call = true
 serves_call forms.Threads call = true
-serves_call forms.Replay MallocWord = true
-serves_call forms.Replay FreeWord = true
-serves_call forms.Replay MsizeWord = true
-serves_call forms.Replay IdentifyWord = true
-serves_call forms.Replay AlignedWord = false
-serves_call forms.Replay ReallocWord = false
-serves_call forms.Replay AlignedReallocWord = false
-serves_call forms.Replay ExitWord = false
+serves_call forms.Plain MallocWord = true
+serves_call forms.Plain FreeWord = true
+serves_call forms.Plain MsizeWord = true
+serves_call forms.Plain IdentifyWord = true
+serves_call forms.Plain AlignedWord = false
+serves_call forms.Plain ReallocWord = false
+serves_call forms.Plain AlignedReallocWord = false
+serves_call forms.Plain ExitWord = false
 
 -- more than one thread, pools other than `pool P0 fixed`, and sizes above 8128 are served
 abbrev pub serves_more : Forms → Bool
 serves_more forms.All = true
 serves_more forms.Threads = true
-serves_more forms.Replay = false
+serves_more forms.Plain = false
 
 -- the pool line is `pool P0 fixed`
 abbrev pub IsPlainPool : ℕ → List PoolOption → Type 0

@@ -24,10 +24,10 @@ TracesAreClear =
     (forms : Forms) (bytes : List ℕ) (one other : Outcome) → IsReadAs forms bytes one → IsReadAs forms bytes other →
     one ≡ other
 
--- the traces that a replay serves have one shape
-abbrev pub ReplaysHaveOneShape : Type 0
-ReplaysHaveOneShape =
-    (bytes : List ℕ) (trace : Trace) → ReadsTrace forms.Replay bytes (Ok trace) →
+-- plain traces have one shape
+abbrev pub PlainTracesHaveOneShape : Type 0
+PlainTracesHaveOneShape =
+    (bytes : List ℕ) (trace : Trace) → ReadsTrace forms.Plain bytes (Ok trace) →
     AreServed trace.names.items trace.pools.items (map act_of trace.lines.items)
 
 -- lines are numbered in their order

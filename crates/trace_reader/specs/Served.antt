@@ -1,4 +1,4 @@
--- What the lines of a trace that was read are: of one that a replay serves, and of any.
+-- What the lines of a trace that was read are: of a plain one, and of any.
 use Rattle.std.specs.Prelude.{◌≡◌, ℕ, ◌+◌, ◌<◌, ◌≤◌, ◌⊎◌, true, List, [], ◌∷◌, Some, None}
 use Rattle.std.specs.declared.option.Option.{Option}
 use Rattle.trace_reader.specs.declared.keywords.CallWord.{CallWord}
@@ -35,9 +35,9 @@ abbrev pub HasSmallSize : TraceCall → Type 0
 HasSmallSize (call.Malloc name size) = size ≤ 8128
 HasSmallSize other = Unit {0}
 
--- a call that a replay serves
+-- a call of a plain trace
 abbrev pub IsServedCall : TraceCall → Type 0
-IsServedCall call = (serves_call forms.Replay (word_of_call call) ≡ true) × HasSmallSize call
+IsServedCall call = (serves_call forms.Plain (word_of_call call) ≡ true) × HasSmallSize call
 
 -- each line makes such a call, whole, on the first pool by the first thread
 abbrev pub AreServedCalls : List Act → Type 0
@@ -52,7 +52,7 @@ plain_pool = act.Pool 0
 abbrev pub plain_options : ArrayVec PoolOption
 plain_options = record { items = option.Fixed ∷ [] }
 
--- Names of threads, the options of pools, and what the lines of a trace that a replay serves do. There is no line, or the line that names
+-- Names of threads, the options of pools, and what the lines of a plain trace do. There is no line, or the line that names
 -- the one thread, or the pool's line; or the line that names the thread, then the pool's line, and then calls.
 abbrev pub AreServed : List ThreadName → List (ArrayVec PoolOption) → List Act → Type 0
 AreServed names pools acts = ((names ≡ []) × (pools ≡ []) × (acts ≡ []))

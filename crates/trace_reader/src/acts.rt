@@ -122,11 +122,11 @@ pub struct TraceLine {
     pub act: Act,
 }
 
-/// Which forms of lines are served: those of a replay, those of a replay by threads, or all of them. A replay serves one
-/// thread, the pool `pool P0 fixed` and calls of `malloc` of sizes to 8128 bytes, `free`, `msize` and `identify`.
+/// Which forms of lines are served: the plain ones, those of a replay by threads, or all of them. Plain are one thread,
+/// the pool `pool P0 fixed` and calls of `malloc` of sizes to 8128 bytes, `free`, `msize` and `identify`.
 #[derive(Clone, Copy, Debug, PartialEq, Eq)]
 pub enum Forms {
-    Replay,
+    Plain,
     Threads,
     All,
 }

@@ -1,6 +1,6 @@
 //! What holds of every trace that is read. The functions do nothing: each has a law as its contract.
 ghost use Rattle.trace_reader.specs.Laws.{LinesAreNumbered, NamesAreBoundInTurn, NumbersAreNames, PlacesAreReadBack};
-ghost use Rattle.trace_reader.specs.Laws.{ReplaysHaveOneShape, RowsAreReadBack, TracesAreClear};
+ghost use Rattle.trace_reader.specs.Laws.{PlainTracesHaveOneShape, RowsAreReadBack, TracesAreClear};
 
 /// A text is read as one thing only. So it spells one trace at most, and none where a line of it is refused, and one line
 /// is refused at most, with one kind. What `read_trace` answers is settled by the bytes and the forms, but for memory.
@@ -8,10 +8,10 @@ pub fn traces_are_clear()
     ensures { TracesAreClear }
 {}
 
-/// A trace that a replay serves has no line, the line that names the one thread, or the line `pool P0 fixed`; or the one,
+/// A plain trace has no line, the line that names the one thread, or the line `pool P0 fixed`; or the one,
 /// then the other, and then calls that are served, each whole, by that thread on that pool.
-pub fn replays_have_one_shape()
-    ensures { ReplaysHaveOneShape }
+pub fn plain_traces_have_one_shape()
+    ensures { PlainTracesHaveOneShape }
 {}
 
 /// The numbers of lines grow, from 1 to at most 65536, so no two are equal, and there are at most 65536.

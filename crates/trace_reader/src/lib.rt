@@ -27,8 +27,9 @@ mod words;
 pub use acts::{Act, Forms, PoolOption, TraceCall, TraceLine, What};
 pub use laws::{
     lines_are_numbered, names_are_bound_in_turn, numbers_are_names, places_are_read_back,
-    replays_have_one_shape, rows_are_read_back, traces_are_clear,
+    plain_traces_have_one_shape, rows_are_read_back, traces_are_clear,
 };
+pub use numbers::read_number;
 pub use pool_types::ThreadName;
 pub use refusal::{Refusal, TraceError, TraceRefused};
 pub use trace::{Trace, read_trace};

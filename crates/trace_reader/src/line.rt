@@ -252,7 +252,7 @@ fn serves_keyword(forms: Forms, key: Keyword) -> bool
 {
     match forms {
         Forms::All => true,
-        Forms::Replay => match key {
+        Forms::Plain => match key {
             Keyword::ThreadsWord | Keyword::PoolWord => true,
             Keyword::RawWord
             | Keyword::BeginWord
@@ -280,7 +280,7 @@ fn serves_call(forms: Forms, call: CallWord) -> bool
 {
     match forms {
         Forms::All | Forms::Threads => true,
-        Forms::Replay => match call {
+        Forms::Plain => match call {
             CallWord::MallocWord
             | CallWord::FreeWord
             | CallWord::MsizeWord
@@ -299,7 +299,7 @@ fn serves_more(forms: Forms) -> bool
 {
     match forms {
         Forms::All | Forms::Threads => true,
-        Forms::Replay => false,
+        Forms::Plain => false,
     }
 }
 

@@ -182,30 +182,30 @@ fn refuses_the_first_line_by_the_order_of_the_kinds(rt: HostRuntime) -> Result<(
 fn refuses_forms_that_are_not_served(rt: HostRuntime) -> Result<(), Fail> {
     let head = b"threads A\npool P0 fixed\n".as_slice();
     let cases: [(&[u8], Forms, u32, u8); 17] = [
-        (b"threads A \x7f\n", Forms::Replay, 1, 12),
-        (b"threads a B\n", Forms::Replay, 1, 1),
-        (b"pool P0\n", Forms::Replay, 1, 12),
-        (b"pool P0 keep keep\n", Forms::Replay, 1, 7),
-        (b"raw\n", Forms::Replay, 1, 12),
-        (b"begin\n", Forms::Replay, 1, 12),
-        (b"x y exit\n", Forms::Replay, 1, 12),
-        (b"x y z = realloc\n", Forms::Replay, 1, 12),
-        (b"x y z = malloc\n", Forms::Replay, 1, 1),
+        (b"threads A \x7f\n", Forms::Plain, 1, 12),
+        (b"threads a B\n", Forms::Plain, 1, 1),
+        (b"pool P0\n", Forms::Plain, 1, 12),
+        (b"pool P0 keep keep\n", Forms::Plain, 1, 7),
+        (b"raw\n", Forms::Plain, 1, 12),
+        (b"begin\n", Forms::Plain, 1, 12),
+        (b"x y exit\n", Forms::Plain, 1, 12),
+        (b"x y z = realloc\n", Forms::Plain, 1, 12),
+        (b"x y z = malloc\n", Forms::Plain, 1, 1),
         (
             b"threads A\npool P0 fixed\nA P0 x = malloc 8129 8\n",
-            Forms::Replay,
+            Forms::Plain,
             3,
             12,
         ),
         (
             b"threads A\npool P0 fixed\nA P0 x = malloc 8128 8\n",
-            Forms::Replay,
+            Forms::Plain,
             3,
             1,
         ),
         (
             b"threads A\npool P0 fixed\npool P1 fixed\n",
-            Forms::Replay,
+            Forms::Plain,
             3,
             12,
         ),
@@ -222,7 +222,7 @@ fn refuses_forms_that_are_not_served(rt: HostRuntime) -> Result<(), Fail> {
             "at {i}"
         );
     }
-    assert_eq!(rt; outcome(rt.alloc(), head, Forms::Replay), Ok(2));
+    assert_eq!(rt; outcome(rt.alloc(), head, Forms::Plain), Ok(2));
     Ok(())
 }
 

@@ -1,11 +1,11 @@
--- The shape of the traces that a replay serves.
+-- the shape of plain traces.
 use Rattle.std.proofs.Common.{◌≡◌, ℕ, ◌+◌, ◌<◌, ◌⊎◌, inl, inr, true, false, List, [], ◌∷◌, ◌++◌, length, drop, map, refl, sym, ◌∙◌, ap, subst, arith}
 use Rattle.std.specs.Prelude.{Ok, Some, None, slice_get}
 use Rattle.std.specs.declared.option.Option.{Option}
 use Rattle.arrayvec.specs.ArrayVec.{ArrayVec}
 use Rattle.std.proofs.lemmas.Option.{slice_get_within}
 use Rattle.pool_types.specs.declared.texts.ThreadName.{ThreadName}
-use Rattle.trace_reader.specs.Laws.{ReplaysHaveOneShape}
+use Rattle.trace_reader.specs.Laws.{PlainTracesHaveOneShape}
 use Rattle.trace_reader.specs.declared.acts.Forms.TheVariants as forms
 use Rattle.trace_reader.specs.declared.acts.PoolOption.{PoolOption}
 use Rattle.trace_reader.specs.declared.acts.TraceCall.{TraceCall}
@@ -30,7 +30,7 @@ use Rattle.trace_reader.proofs.EnterLemmas.{vec_same}
 use Rattle.trace_reader.proofs.OneOption.{options_one}
 use Rattle.trace_reader.proofs.CallForms.{IsSmallCall, binding_small, plain_small}
 
--- one line that a replay serves
+-- one line of a plain trace
 
 -- the line names the one thread
 record NamesThread (before : Context) (words : List (List ℕ)) (deed : Act) : Type 0 where
@@ -106,7 +106,7 @@ some_ap : {one other : List ℕ} → one ≡ other → ◌≡◌ {A = Option (Li
 some_ap same = cc
 
 -- the call of the words is one that is served
-served_call : (before : Context) (words : List (List ℕ)) (call : TraceCall) → ((word : CallWord) → Calls words word → serves_call forms.Replay word ≡ true) → ReadsCall false before words 2 (Ok call) → IsServedCall call
+served_call : (before : Context) (words : List (List ℕ)) (call : TraceCall) → ((word : CallWord) → Calls words word → serves_call forms.Plain word ≡ true) → ReadsCall false before words 2 (Ok call) → IsServedCall call
 served_call before words call served read = elim read [
   | inl named ↦ elim named.1 [
     | inl refused ↦ absurd (not_both refused.2)
@@ -115,7 +115,7 @@ served_call before words call served read = elim read [
       | inr called ↦
           let word = word_read (ReadsCallWord true) (slice_get words 4) called.0 called.1 in
           let small : IsSmallCall called.0 call = binding_small before went.0 called.0 words 5 call called.2 in
-          (ap (λ (w : CallWord). serves_call forms.Replay w) small.0 ∙ served called.0 (inl (named.0, word.1 ∙ some_ap word.2.0)), small.1)
+          (ap (λ (w : CallWord). serves_call forms.Plain w) small.0 ∙ served called.0 (inl (named.0, word.1 ∙ some_ap word.2.0)), small.1)
     ]
   ]
   | inr plain ↦ elim plain.1 [
@@ -123,11 +123,11 @@ served_call before words call served read = elim read [
     | inr called ↦
         let word = word_read (ReadsCallWord false) (slice_get words 2) called.0 called.1 in
         let small : IsSmallCall called.0 call = plain_small before called.0 words 3 call called.2 in
-        (ap (λ (w : CallWord). serves_call forms.Replay w) small.0 ∙ served called.0 (inr (plain.0, word.1 ∙ some_ap word.2.0)), small.1)
+        (ap (λ (w : CallWord). serves_call forms.Plain w) small.0 ∙ served called.0 (inr (plain.0, word.1 ∙ some_ap word.2.0)), small.1)
   ]
 ]
 
-call_line : (before : Context) (words : List (List ℕ)) (deed : Act) → ((word : CallWord) → Calls words word → serves_call forms.Replay word ≡ true) → CallLine false before words (Ok deed) → MakesCall before deed
+call_line : (before : Context) (words : List (List ℕ)) (deed : Act) → ((word : CallWord) → Calls words word → serves_call forms.Plain word ≡ true) → CallLine false before words (Ok deed) → MakesCall before deed
 call_line before words deed served read = elim read [
   | inl refused ↦ absurd (not_both refused.2)
   | inr named ↦ elim named.2 [
@@ -150,11 +150,11 @@ call_line before words deed served read = elim read [
   ]
 ]
 
--- what a line that a replay serves does
+-- what a line of a plain trace does
 ServedLine : Context → List (List ℕ) → Act → Type 0
 ServedLine before words deed = NamesThread before words deed ⊎ MakesPool before words deed ⊎ MakesCall before deed
 
-keyword_line : (before : Context) (key : Keyword) (words : List (List ℕ)) (deed : Act) → serves_keyword forms.Replay key ≡ true → KeywordLine false before key words (Ok deed) → ServedLine before words deed
+keyword_line : (before : Context) (key : Keyword) (words : List (List ℕ)) (deed : Act) → serves_keyword forms.Plain key ≡ true → KeywordLine false before key words (Ok deed) → ServedLine before words deed
 unfolding ServedLine
 keyword_line before ThreadsWord words deed served read = inl (threads_line before words deed read)
 keyword_line before PoolWord words deed served read = inr (inl (pool_line before words deed read))
@@ -166,7 +166,7 @@ keyword_line before FinishWord words deed served read = let h : false ≡ true =
 keyword_line before ResetWord words deed served read = let h : false ≡ true = served in absurd (cc)
 keyword_line before DestroyWord words deed served read = let h : false ≡ true = served in absurd (cc)
 
-served_line : (before : Context) (words : List (List ℕ)) (deed : Act) → ReadsWords forms.Replay before words (Ok deed) → ServedLine before words deed
+served_line : (before : Context) (words : List (List ℕ)) (deed : Act) → ReadsWords forms.Plain before words (Ok deed) → ServedLine before words deed
 unfolding ServedLine
 served_line before words deed read = elim read [
   | inl keyed ↦ keyword_line before keyed.0 words deed keyed.2 keyed.3
@@ -242,7 +242,7 @@ record AreCalls (name : List ℕ) (lines : List TraceLine) (last : Context) : Ty
   stands : Stands last (name ∷ []) (plain_options ∷ [])
   calls : AreServedCalls (map act_of lines)
 
-calls_follow : (before : Context) (least : ℕ) (name : List ℕ) (lines : List TraceLine) (last : Context) → Stands before (name ∷ []) (plain_options ∷ []) → Follow forms.Replay before least lines last → AreCalls name lines last
+calls_follow : (before : Context) (least : ℕ) (name : List ℕ) (lines : List TraceLine) (last : Context) → Stands before (name ∷ []) (plain_options ∷ []) → Follow forms.Plain before least lines last → AreCalls name lines last
 unfolding Follow ServedLine
 calls_follow before least name [] last stands follow = record { stands = same_stands last before (name ∷ []) (plain_options ∷ []) follow stands; calls = tt }
 calls_follow before least name (line ∷ lines) last stands follow = elim (served_line before follow.0 line.act follow.2.read) [
@@ -260,7 +260,7 @@ calls_follow before least name (line ∷ lines) last stands follow = elim (serve
 ]
 
 -- no line follows the pool's line where no thread is named
-none_follow : (before : Context) (least : ℕ) (lines : List TraceLine) (last : Context) → Stands before [] (plain_options ∷ []) → Follow forms.Replay before least lines last → Stands last [] (plain_options ∷ []) × (lines ≡ [])
+none_follow : (before : Context) (least : ℕ) (lines : List TraceLine) (last : Context) → Stands before [] (plain_options ∷ []) → Follow forms.Plain before least lines last → Stands last [] (plain_options ∷ []) × (lines ≡ [])
 unfolding Follow ServedLine
 none_follow before least [] last stands follow = (same_stands last before [] (plain_options ∷ []) follow stands, refl)
 none_follow before least (line ∷ lines) last stands follow = elim (served_line before follow.0 line.act follow.2.read) [
@@ -273,7 +273,7 @@ ActsNamed : List ℕ → List TraceLine → Context → Type 0
 ActsNamed name lines last = (Stands last (name ∷ []) [] × (map act_of lines ≡ []))
     ⊎ ((calls : List Act) × Stands last (name ∷ []) (plain_options ∷ []) × (map act_of lines ≡ plain_pool ∷ calls) × AreServedCalls calls)
 
-named_follow : (before : Context) (least : ℕ) (name : List ℕ) (lines : List TraceLine) (last : Context) → Stands before (name ∷ []) [] → Follow forms.Replay before least lines last → ActsNamed name lines last
+named_follow : (before : Context) (least : ℕ) (name : List ℕ) (lines : List TraceLine) (last : Context) → Stands before (name ∷ []) [] → Follow forms.Plain before least lines last → ActsNamed name lines last
 unfolding Follow ServedLine ActsNamed
 named_follow before least name [] last stands follow = inl (same_stands last before (name ∷ []) [] follow stands, refl)
 named_follow before least name (line ∷ lines) last stands follow = elim (served_line before follow.0 line.act follow.2.read) [
@@ -298,7 +298,7 @@ one_thread name (thread ∷ threads) same =
     let rest : map name_bytes threads ≡ [] = cc in
     (thread, ap (λ (ts : List ThreadName). thread ∷ ts) (no_names threads rest))
 
-all_follow : (lines : List TraceLine) (threads : List ThreadName) (pools : List (ArrayVec PoolOption)) (least : ℕ) (last : Context) → map name_bytes threads ≡ last.names → pools ≡ last.pools → Follow forms.Replay nothing_yet least lines last →
+all_follow : (lines : List TraceLine) (threads : List ThreadName) (pools : List (ArrayVec PoolOption)) (least : ℕ) (last : Context) → map name_bytes threads ≡ last.names → pools ≡ last.pools → Follow forms.Plain nothing_yet least lines last →
     AreServed threads pools (map act_of lines)
 unfolding Follow ServedLine ActsNamed
 all_follow [] threads pools least last named made follow = inl (
@@ -324,7 +324,7 @@ all_follow (line ∷ lines) threads pools least last named made follow = elim (s
   ]
 ]
 
-pub replays_have_one_shape : ReplaysHaveOneShape
-replays_have_one_shape bytes trace read =
-    let to = lines_follow forms.Replay nothing_yet 1 read.texts read.last trace.lines.items (map name_bytes trace.names.items) trace.pools.items read.reads in
+pub plain_traces_have_one_shape : PlainTracesHaveOneShape
+plain_traces_have_one_shape bytes trace read =
+    let to = lines_follow forms.Plain nothing_yet 1 read.texts read.last trace.lines.items (map name_bytes trace.names.items) trace.pools.items read.reads in
     all_follow trace.lines.items trace.names.items trace.pools.items 1 to.last to.named to.made to.follow
