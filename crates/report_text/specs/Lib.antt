@@ -4,5 +4,4 @@ pub mod Answers
 pub mod Moves
 pub mod Totals
 pub mod Entries
-pub mod Named
 pub mod Reports

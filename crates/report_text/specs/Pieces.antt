@@ -5,7 +5,7 @@ use Rattle.pool_types.specs.declared.values.Place.{Place}
 use Rattle.pool_types.specs.declared.values.Grant.{Grant}
 use Rattle.pool_types.specs.Texts.{place_text}
 
--- the name of a seat's thread
+-- the name of a seat's thread; a seat that has none has an empty name
 abbrev pub name_of : List (List ℕ) → ℕ → List ℕ
 name_of names seat = slice_index_or names seat []
 

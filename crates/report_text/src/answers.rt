@@ -1,9 +1,8 @@
 //! The texts of answers.
-ghost use Rattle.std.specs.Prelude.{◌≡◌, ◌++◌, [], OnOk, codes, length};
+ghost use Rattle.std.specs.Prelude.{◌≡◌, ◌++◌, [], OnOk, codes};
 ghost use Rattle.std.specs.Fmt.{decimal};
 ghost use Rattle.pool_types.specs.Texts.{names_of};
 ghost use Rattle.report_text.specs.Answers.{looks_text, cause_text, found_text, answer_text};
-ghost use Rattle.report_text.specs.Named.{IsFoundNamed, IsAnswerNamed};
 
 use crate::pieces::{add_grant, add_object};
 use crate::report::NoMemory;
@@ -50,7 +49,6 @@ fn add_cause(text: &mut Text, cause: NullCause) -> Result<(), NoMemory>
 
 /// Adds what a call found in the place of an object.
 fn add_found(text: &mut Text, names: &[ThreadName], found: Found) -> Result<(), NoMemory>
-    requires { IsFoundNamed (length names.now) found }
     ensures added { OnOk result (text.new.begun ≡ text.old.begun ++ found_text (names_of names.now) found) }
     ensures kept { text.new.whole ≡ text.old.whole }
 {
@@ -63,7 +61,6 @@ fn add_found(text: &mut Text, names: &[ThreadName], found: Found) -> Result<(), 
 
 /// Adds that a call found something else in the place of an object.
 fn add_not_held(text: &mut Text, names: &[ThreadName], found: Found) -> Result<(), NoMemory>
-    requires { IsFoundNamed (length names.now) found }
     ensures added { OnOk result (text.new.begun ≡ text.old.begun ++ answer_text (names_of names.now) (Answer.NotHeld found)) }
     ensures kept { text.new.whole ≡ text.old.whole }
 {
@@ -86,7 +83,6 @@ pub(crate) fn add_answer(
     names: &[ThreadName],
     answer: Answer,
 ) -> Result<(), NoMemory>
-    requires { IsAnswerNamed (length names.now) answer }
     ensures added { OnOk result (text.new.begun ≡ text.old.begun ++ answer_text (names_of names.now) answer) }
     ensures kept { text.new.whole ≡ text.old.whole }
 {

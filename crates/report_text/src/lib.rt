@@ -11,7 +11,6 @@ mod answers;
 mod entry;
 mod lines;
 mod moves;
-mod named;
 mod pieces;
 mod report;
 #[cfg(test)]

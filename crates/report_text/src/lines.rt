@@ -1,11 +1,10 @@
 //! The text of an entry.
-ghost use Rattle.std.specs.Prelude.{◌≡◌, ◌++◌, OnOk, codes, length};
+ghost use Rattle.std.specs.Prelude.{◌≡◌, ◌++◌, OnOk, codes};
 ghost use Rattle.std.specs.Fmt.{decimal};
 ghost use Rattle.pool_types.specs.Texts.{names_of};
 ghost use Rattle.report_text.specs.Pieces.{name_of};
 ghost use Rattle.report_text.specs.Answers.{answer_text};
 ghost use Rattle.report_text.specs.Entries.{limits_text, waits_text, fate_text, line_text, destroyed_text, region_text, region_left_text, entry_text};
-ghost use Rattle.report_text.specs.Named.{HasName, IsAnswerNamed, IsNamed};
 
 use crate::answers::add_answer;
 use crate::entry::{Fate, ReportEntry};
@@ -72,7 +71,6 @@ fn add_line(text: &mut Text, line: u32, words: &[u8]) -> Result<(), NoMemory>
 
 /// Adds that the last call of this seat's thread is not done.
 fn add_call_open(text: &mut Text, names: &[ThreadName], line: u32, seat: u8) -> Result<(), NoMemory>
-    requires { HasName (length names.now) seat }
     ensures added { OnOk result (text.new.begun ≡ text.old.begun ++ line_text line (codes "call-open " ++ name_of (names_of names.now) seat)) }
     ensures kept { text.new.whole ≡ text.old.whole }
 {
@@ -89,7 +87,6 @@ fn add_answer_line(
     line: u32,
     answer: Answer,
 ) -> Result<(), NoMemory>
-    requires { IsAnswerNamed (length names.now) answer }
     ensures added { OnOk result (text.new.begun ≡ text.old.begun ++ line_text line (answer_text (names_of names.now) answer)) }
     ensures kept { text.new.whole ≡ text.old.whole }
 {
@@ -163,7 +160,6 @@ pub(crate) fn add_entry(
     names: &[ThreadName],
     entry: ReportEntry,
 ) -> Result<(), NoMemory>
-    requires { IsNamed (length names.now) entry }
     ensures added { OnOk result (text.new.begun ≡ text.old.begun ++ entry_text (names_of names.now) entry) }
     ensures kept { text.new.whole ≡ text.old.whole }
 {

@@ -1,9 +1,8 @@
 //! The lines of moves.
-ghost use Rattle.std.specs.Prelude.{◌≡◌, ◌++◌, OnOk, length};
+ghost use Rattle.std.specs.Prelude.{◌≡◌, ◌++◌, OnOk};
 ghost use Rattle.pool_types.specs.Texts.{names_of};
 ghost use Rattle.report_text.specs.Pieces.{name_of, grant_text};
 ghost use Rattle.report_text.specs.Moves.{holder_text, side_text, keeper_text, step_text, range_text, sides_text, keepers_text, move_text, keeper_move_text};
-ghost use Rattle.report_text.specs.Named.{HasName, IsHolderNamed, IsSideNamed, IsKeeperNamed};
 
 use crate::pieces::{add_grant, add_name, add_place};
 use crate::report::NoMemory;
@@ -18,7 +17,6 @@ fn add_word_and_grant(
     names: &[ThreadName],
     grant: Grant,
 ) -> Result<(), NoMemory>
-    requires { HasName (length names.now) grant.seat }
     ensures added { OnOk result (text.new.begun ≡ text.old.begun ++ (word.now ++ grant_text (names_of names.now) grant)) }
     ensures kept { text.new.whole ≡ text.old.whole }
 {
@@ -33,7 +31,6 @@ fn add_word_and_name(
     names: &[ThreadName],
     seat: u8,
 ) -> Result<(), NoMemory>
-    requires { HasName (length names.now) seat }
     ensures added { OnOk result (text.new.begun ≡ text.old.begun ++ (word.now ++ name_of (names_of names.now) seat)) }
     ensures kept { text.new.whole ≡ text.old.whole }
 {
@@ -43,7 +40,6 @@ fn add_word_and_name(
 
 /// Adds who holds bytes.
 fn add_holder(text: &mut Text, names: &[ThreadName], holder: Holder) -> Result<(), NoMemory>
-    requires { IsHolderNamed (length names.now) holder }
     ensures added { OnOk result (text.new.begun ≡ text.old.begun ++ holder_text (names_of names.now) holder) }
     ensures kept { text.new.whole ≡ text.old.whole }
 {
@@ -65,7 +61,6 @@ fn add_holder(text: &mut Text, names: &[ThreadName], holder: Holder) -> Result<(
 
 /// Adds one side of a move.
 fn add_side(text: &mut Text, names: &[ThreadName], side: Option<Holder>) -> Result<(), NoMemory>
-    requires { IsSideNamed (length names.now) side }
     ensures added { OnOk result (text.new.begun ≡ text.old.begun ++ side_text (names_of names.now) side) }
     ensures kept { text.new.whole ≡ text.old.whole }
 {
@@ -77,7 +72,6 @@ fn add_side(text: &mut Text, names: &[ThreadName], side: Option<Holder>) -> Resu
 
 /// Adds who keeps a slab.
 fn add_keeper(text: &mut Text, names: &[ThreadName], keeper: Keeper) -> Result<(), NoMemory>
-    requires { IsKeeperNamed (length names.now) keeper }
     ensures added { OnOk result (text.new.begun ≡ text.old.begun ++ keeper_text (names_of names.now) keeper) }
     ensures kept { text.new.whole ≡ text.old.whole }
 {
@@ -97,7 +91,6 @@ fn add_step(
     seat: u8,
     row: Row,
 ) -> Result<(), NoMemory>
-    requires { HasName (length names.now) seat }
     ensures added { OnOk result (text.new.begun ≡ text.old.begun ++ step_text (names_of names.now) number seat row) }
     ensures kept { text.new.whole ≡ text.old.whole }
 {
@@ -121,8 +114,6 @@ fn add_range(text: &mut Text, range: Range) -> Result<(), NoMemory>
 /// Adds from which holder to which bytes go.
 #[tactic(auto, unfolding(crate::specs::Moves::sides_text))]
 fn add_sides(text: &mut Text, names: &[ThreadName], part: Part) -> Result<(), NoMemory>
-    requires from { IsSideNamed (length names.now) part.from }
-    requires to { IsSideNamed (length names.now) part.to }
     ensures added { OnOk result (text.new.begun ≡ text.old.begun ++ sides_text (names_of names.now) part) }
     ensures kept { text.new.whole ≡ text.old.whole }
 {
@@ -134,8 +125,6 @@ fn add_sides(text: &mut Text, names: &[ThreadName], part: Part) -> Result<(), No
 /// Adds from which keeper to which a slab goes.
 #[tactic(auto, unfolding(crate::specs::Moves::keepers_text))]
 fn add_keepers(text: &mut Text, names: &[ThreadName], change: KeeperChange) -> Result<(), NoMemory>
-    requires from { IsKeeperNamed (length names.now) change.from }
-    requires to { IsKeeperNamed (length names.now) change.to }
     ensures added { OnOk result (text.new.begun ≡ text.old.begun ++ keepers_text (names_of names.now) change) }
     ensures kept { text.new.whole ≡ text.old.whole }
 {
@@ -154,9 +143,6 @@ pub(crate) fn add_move(
     row: Row,
     part: Part,
 ) -> Result<(), NoMemory>
-    requires seat { HasName (length names.now) seat }
-    requires from { IsSideNamed (length names.now) part.from }
-    requires to { IsSideNamed (length names.now) part.to }
     ensures added { OnOk result (text.new.begun ≡ text.old.begun ++ move_text (names_of names.now) number seat row part) }
     ensures kept { text.new.whole ≡ text.old.whole }
 {
@@ -179,9 +165,6 @@ pub(crate) fn add_keeper_move(
     row: Row,
     change: KeeperChange,
 ) -> Result<(), NoMemory>
-    requires seat { HasName (length names.now) seat }
-    requires from { IsKeeperNamed (length names.now) change.from }
-    requires to { IsKeeperNamed (length names.now) change.to }
     ensures added { OnOk result (text.new.begun ≡ text.old.begun ++ keeper_move_text (names_of names.now) number seat row change) }
     ensures kept { text.new.whole ≡ text.old.whole }
 {

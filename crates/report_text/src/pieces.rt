@@ -1,24 +1,24 @@
 //! The pieces that many lines of a report have in common.
-ghost use Rattle.std.specs.Prelude.{◌≡◌, ◌++◌, OnOk, length};
+ghost use Rattle.std.specs.Prelude.{◌≡◌, ◌++◌, OnOk};
 ghost use Rattle.pool_types.specs.Texts.{names_of, place_text};
 ghost use Rattle.report_text.specs.Pieces.{name_of, grant_text, object_text};
-ghost use Rattle.report_text.specs.Named.{HasName};
 
 use crate::report::NoMemory;
 use crate::text::Text;
 use pool_types::{Grant, Place, ThreadName};
 
-/// The name of the seat's thread.
+/// The name of the seat's thread. A seat that has no thread has an empty one.
 fn name_of(names: &[ThreadName], seat: u8) -> &[u8]
-    requires { HasName (length names.now) seat }
     ensures { result.now ≡ name_of (names_of names.now) seat }
 {
-    names[usize::from(seat)].bytes.as_slice()
+    match names.get(usize::from(seat)) {
+        Some(name) => name.bytes.as_slice(),
+        None => b"",
+    }
 }
 
 /// Adds the name of the seat's thread.
 pub(crate) fn add_name(text: &mut Text, names: &[ThreadName], seat: u8) -> Result<(), NoMemory>
-    requires { HasName (length names.now) seat }
     ensures added { OnOk result (text.new.begun ≡ text.old.begun ++ name_of (names_of names.now) seat) }
     ensures kept { text.new.whole ≡ text.old.whole }
 {
@@ -27,7 +27,6 @@ pub(crate) fn add_name(text: &mut Text, names: &[ThreadName], seat: u8) -> Resul
 
 /// Adds a grant, as `A#1`.
 pub(crate) fn add_grant(text: &mut Text, names: &[ThreadName], grant: Grant) -> Result<(), NoMemory>
-    requires { HasName (length names.now) grant.seat }
     ensures added { OnOk result (text.new.begun ≡ text.old.begun ++ grant_text (names_of names.now) grant) }
     ensures kept { text.new.whole ≡ text.old.whole }
 {
@@ -54,7 +53,6 @@ pub(crate) fn add_object(
     usable: u64,
     grant: Grant,
 ) -> Result<(), NoMemory>
-    requires { HasName (length names.now) grant.seat }
     ensures added { OnOk result (text.new.begun ≡ text.old.begun ++ object_text (names_of names.now) place usable grant) }
     ensures kept { text.new.whole ≡ text.old.whole }
 {

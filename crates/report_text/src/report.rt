@@ -1,12 +1,11 @@
 //! A report, and its writing. This project's own.
-ghost use Rattle.std.specs.Prelude.{◌≡◌, ◌++◌, ◌∷◌, [], List, OnOk, OnErr, IfOk, map, length};
+ghost use Rattle.std.specs.Prelude.{◌≡◌, ◌++◌, ◌∷◌, [], List, OnOk, OnErr, IfOk, map};
 ghost use Rattle.std.specs.Io.KnownBytes.{Appends};
 ghost use Rattle.pool_types.specs.Causes.{Rose};
 ghost use Rattle.report_text.specs.declared.entry.ReportEntry.{ReportEntry};
 ghost use Rattle.pool_types.specs.Texts.{names_of};
 ghost use Rattle.pool_types.specs.Transfers.{IsWrittenPart};
 ghost use Rattle.report_text.specs.Entries.{entry_text, report_text};
-ghost use Rattle.report_text.specs.Named.{IsNamed};
 ghost use Rattle.report_text.specs.Reports.{ReportView, ended_text, HasEntries};
 
 use crate::entry::ReportEntry;
@@ -51,11 +50,10 @@ fn duplicate_all(alloc: Global, names: &[ThreadName]) -> Result<Vec<ThreadName>,
 }
 
 impl Report {
-    ghost use Rattle.std.specs.Prelude.{◌≡◌, ◌++◌, ◌∷◌, [], List, OnOk, OnErr, IfOk, length};
+    ghost use Rattle.std.specs.Prelude.{◌≡◌, ◌++◌, ◌∷◌, [], List, OnOk, OnErr, IfOk};
     ghost use Rattle.report_text.specs.declared.entry.ReportEntry.{ReportEntry};
     ghost use Rattle.pool_types.specs.Texts.{names_of};
     ghost use Rattle.report_text.specs.Entries.{entry_text};
-    ghost use Rattle.report_text.specs.Named.{IsNamed};
     ghost use Rattle.report_text.specs.Reports.{HasEntries};
 
     /// A report of no entry. It keeps the names of the trace's threads.
@@ -72,17 +70,9 @@ impl Report {
         }
     }
 
-    /// How many threads it has names of. The seats in its entries are below that.
-    pub fn seats(&self) -> usize
-        ensures { result ≡ length self.now.names }
-    {
-        self.names.len()
-    }
-
     /// Puts an entry at the end. Its text is written in place, and cut back where memory runs out, so that the report is
-    /// then as before. Each seat in the entry is one of the trace's threads.
+    /// then as before.
     pub fn add(&mut self, entry: ReportEntry) -> Result<(), NoMemory>
-        requires { IsNamed (length self.old.names) entry }
         ensures added { OnOk result (self.new ≡ record { names = self.old.names; text = self.old.text ++ entry_text self.old.names entry }) }
         ensures entries { OnOk result ((entries : List ReportEntry) → HasEntries self.old entries → HasEntries self.new (entries ++ entry ∷ [])) }
         ensures kept { OnErr result (self.new ≡ self.old) }

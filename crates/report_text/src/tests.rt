@@ -64,9 +64,6 @@ fn report_of(alloc: Global, entries: &[ReportEntry]) -> Result<Report, Fail> {
         return Err(Fail::from("no memory"));
     };
     for entry in entries {
-        if !entry.is_named(report.seats()) {
-            return Err(Fail::from("a seat without a name"));
-        }
         if report.add(*entry).is_err() {
             return Err(Fail::from("no memory"));
         }

@@ -1,8 +1,7 @@
 //! The lines of what a pool has at the end.
-ghost use Rattle.std.specs.Prelude.{◌≡◌, ◌++◌, OnOk, length};
+ghost use Rattle.std.specs.Prelude.{◌≡◌, ◌++◌, OnOk};
 ghost use Rattle.pool_types.specs.Texts.{names_of};
 ghost use Rattle.report_text.specs.Totals.{region_totals_text, slab_totals_text, held_totals_text, cached_totals_text, object_totals_text, block_totals_text, total_text, bin_items_text, bin_times_text, cache_text, leak_text};
-ghost use Rattle.report_text.specs.Named.{HasName};
 
 use crate::entry::BinNumbers;
 use crate::pieces::add_object;
@@ -159,7 +158,6 @@ pub(crate) fn add_cache(text: &mut Text, pool: u16, bin: BinNumbers) -> Result<(
 /// Adds the line of an object that is still held.
 #[tactic(auto, unfolding(crate::specs::Totals::leak_text))]
 pub(crate) fn add_leak(text: &mut Text, names: &[ThreadName], leak: Leak) -> Result<(), NoMemory>
-    requires { HasName (length names.now) leak.grant.seat }
     ensures added { OnOk result (text.new.begun ≡ text.old.begun ++ leak_text (names_of names.now) leak) }
     ensures kept { text.new.whole ≡ text.old.whole }
 {

@@ -1,5 +1,5 @@
 -- What the lines of a trace report, and what its pools report at the end.
-use Rattle.std.specs.Prelude.{ℕ, ◌<◌, Bool, true, false, ◌&&◌, List, [], ◌∷◌, ◌++◌, map, is_ok, Some, None}
+use Rattle.std.specs.Prelude.{ℕ, Bool, true, false, ◌&&◌, List, [], ◌∷◌, ◌++◌, map, is_ok, Some, None}
 use Rattle.std.specs.List.{list_any}
 use Rattle.std.specs.declared.option.Option.{Option}
 use Rattle.pool_types.specs.declared.values.Answer.{Answer}
@@ -12,7 +12,6 @@ use Rattle.report_text.specs.declared.entry.BinNumbers.{BinNumbers}
 use Rattle.report_text.specs.declared.entry.ReportEntry.{ReportEntry}
 use Rattle.report_text.specs.declared.entry.ReportEntry.TheVariants.{Answered, Total, CacheBin, Leaked}
 use Rattle.report_text.specs.Entries.{entry_text, entries_text}
-use Rattle.report_text.specs.Named.{IsNamed}
 use Rattle.report_text.specs.Reports.{ReportView}
 use Rattle.trace_calls.specs.Pools.{Judged, made_entry}
 
@@ -72,12 +71,3 @@ with_entry report (Some entry) = record { names = report.names; text = report.te
 -- a report with these entries more
 abbrev pub with_entries : ReportView → List ReportEntry → ReportView
 with_entries report entries = record { names = report.names; text = report.text ++ entries_text report.names entries }
-
--- each seat in the entry, if there is one, is that of a thread
-abbrev pub IsEntryNamed : ℕ → Option ReportEntry → Type 0
-IsEntryNamed threads None = Unit {0}
-IsEntryNamed threads (Some entry) = IsNamed threads entry
-
--- the seat that has the object is
-abbrev pub IsLeakNamed : ℕ → Leak → Type 0
-IsLeakNamed threads leak = leak.grant.seat < threads

@@ -1,15 +1,13 @@
 //! What a line reports, and what a pool reports at the end. This project's own.
-ghost use Rattle.std.specs.Prelude.{◌≡◌, OnOk, All, length, map};
+ghost use Rattle.std.specs.Prelude.{◌≡◌, OnOk, map};
 ghost use Rattle.trace_calls.specs.Entries.{cached, leaked, pool_end, with_entry, with_entries};
-ghost use Rattle.trace_calls.specs.Entries.{IsEntryNamed, IsLeakNamed};
 
 use part_model::Totals;
 use pool_types::Leak;
 use report_text::{BinNumbers, NoMemory, Report, ReportEntry};
 
-/// Adds what a line reports, if it reports something. Each seat in the entry is one of the report's threads.
+/// Adds what a line reports, if it reports something.
 pub fn add_entry(report: &mut Report, entry: Option<ReportEntry>) -> Result<(), NoMemory>
-    requires { IsEntryNamed (length report.old.names) entry }
     ensures { OnOk result (report.new ≡ with_entry report.old entry) }
 {
     match entry {
@@ -30,7 +28,6 @@ fn add_bins(report: &mut Report, pool: u16, bins: &[BinNumbers]) -> Result<(), N
 
 /// Adds the objects that are still held.
 fn add_leaks(report: &mut Report, leaks: &[Leak]) -> Result<(), NoMemory>
-    requires { All (IsLeakNamed (length report.old.names)) leaks.now }
     ensures { OnOk result (report.new ≡ with_entries report.old (map leaked leaks.now)) }
 {
     for leak in leaks {
@@ -39,8 +36,7 @@ fn add_leaks(report: &mut Report, leaks: &[Leak]) -> Result<(), NoMemory>
     Ok(())
 }
 
-/// Adds what a pool reports at the end: its totals, the bins of its cache, and the objects that are still held. Each of
-/// them is held by one of the report's threads.
+/// Adds what a pool reports at the end: its totals, the bins of its cache, and the objects that are still held.
 pub fn add_pool_end(
     report: &mut Report,
     pool: u16,
@@ -48,7 +44,6 @@ pub fn add_pool_end(
     bins: &[BinNumbers],
     leaks: &[Leak],
 ) -> Result<(), NoMemory>
-    requires { All (IsLeakNamed (length report.old.names)) leaks.now }
     ensures { OnOk result (report.new ≡ with_entries report.old (pool_end pool totals bins.now leaks.now)) }
 {
     report.add(ReportEntry::Total { pool, totals })?;
