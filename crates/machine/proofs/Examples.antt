@@ -91,8 +91,10 @@ look_happens bytes = record {
         eight_is_small,
         (
           record {
-            rest = λ byte own. absurd (Contains-none own.0 own.1.0.0);
-            private = λ byte own. absurd (Contains-none own.0 own.1.0.0);
+            given = record {
+              rest = λ byte own. absurd (Contains-none own.0 own.1.0.0);
+              private = λ byte own. absurd (Contains-none own.0 own.1.0.0);
+            };
             stored = λ byte is. cc;
           },
           λ alone. record {
@@ -210,8 +212,10 @@ scrap_refuses = record {
         eight_is_small,
         (
           record {
-            rest = λ byte own. absurd (Contains-none own.0 own.1.0.0);
-            private = λ byte own. absurd (Contains-none own.0 own.1.0.0);
+            given = record {
+              rest = λ byte own. absurd (Contains-none own.0 own.1.0.0);
+              private = λ byte own. absurd (Contains-none own.0 own.1.0.0);
+            };
             stored = scrap_held (λ holder. holder ≢ Some (SlabCache 0)) (λ e. cc) (λ e. cc);
           },
           λ alone. record {

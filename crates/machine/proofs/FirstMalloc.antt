@@ -141,8 +141,7 @@ slab_starts = record {
       record {
         served = eight_is_small;
         none_yet = refl;
-        rest = λ byte own. absurd (Contains-none own.0 own.1.0.0);
-        private = λ byte own. absurd (Contains-none own.0 own.1.0.0);
+        own = record { rest = λ byte own. absurd (Contains-none own.0 own.1.0.0); private = λ byte own. absurd (Contains-none own.0 own.1.0.0) };
         orphans = inl (λ slab kept. absurd (Contains-none slab kept.0.0));
         waits = λ alone. record { public = λ byte own. absurd (Contains-none own.0 own.1.0.0); orphan = λ slab kept. absurd (Contains-none slab kept.0.0) };
       },

@@ -16,4 +16,5 @@ pub mod AnswerGrants
 pub mod GotRuns
 pub mod Refused
 pub mod Scripts
+pub mod Journals
 pub mod CallerLemmas

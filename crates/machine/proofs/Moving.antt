@@ -1,5 +1,5 @@
 -- Ranges that are whole and apart, and parts that can be moved.
-use Rattle.std.proofs.Common.{◌≡◌, ◌∙◌, ℕ, ◌+◌, ◌*◌, ◌≤◌, List, [], ◌∷◌, true, All, arith}
+use Rattle.std.proofs.Common.{◌≡◌, ◌∙◌, ℕ, ◌+◌, ◌≤◌, List, [], ◌∷◌, true, All, arith}
 use Rattle.std.specs.declared.option.Option.{Option}
 use Rattle.std.proofs.lemmas.List.Elements.{All-nil, All-cons}
 use Rattle.pool_types.specs.declared.values.Place.{Place}
@@ -10,8 +10,6 @@ use Rattle.part_model.specs.Lawful.{is_lawful_pair}
 use Rattle.part_model.specs.Holding.{Holding, lies_in, AreApart, IsWhole, AreWhole, CanMoveAll}
 use Rattle.part_model.proofs.CallerLemmas.{lies_in-parts, lies_in-is, same_region-parts, same_region-is, apart_before}
 use Rattle.machine.specs.Ranges.{Each, part_of}
-use Rattle.size_classes.specs.Classes.{class_size, class_objects}
-use Rattle.std.proofs.Math.Nat.{div-mul-le_self}
 
 -- a fact of each member, by index
 pub each-all : {X : Type 0} → (P : X → Type 0) → (xs : List X) → Each P xs → All P xs
@@ -47,11 +45,6 @@ pub two_move : (seat : ℕ) (held : Holding) (one other : Range) (from to from' 
     ((byte : Place) → lies_in byte one ≡ true → held byte ≡ from) → ((byte : Place) → lies_in byte other ≡ true → held byte ≡ from') →
     CanMoveAll seat held (part_of one from to ∷ part_of other from' to' ∷ [])
 two_move seat held one other from to from' to' lawful lawful' there there' = (record { lawful = lawful; there = there }, (record { lawful = lawful'; there = there' }, tt))
-
--- the objects of a slab fit behind its head
-pub objects_fit : (class : ℕ) → class_objects class * class_size class ≤ 16256
-unfolding class_objects
-objects_fit class = div-mul-le_self 16256 (class_size class)
 
 -- a range within another
 pub lies_within : (one other : Range) (byte : Place) → one.place.pool ≡ other.place.pool → one.place.region ≡ other.place.region →

@@ -1,17 +1,21 @@
 -- Runs of wrong allocators are refused.
-use Rattle.std.proofs.Common.{ℕ, ◌≡◌, ◌≢◌, ◌<◌, inl, inr, List, [], ◌∷◌, ◌++◌, true, false, zero, suc, refl, sym, ◌∙◌, ap, arith, subst, lit<, lit≤, filter}
+use Rattle.std.proofs.Common.{ℕ, ◌≡◌, ◌≢◌, ◌<◌, inl, inr, List, [], ◌∷◌, ◌++◌, true, false, zero, suc, Some, refl, sym, ◌∙◌, ap, arith, subst, lit<, lit≤, filter}
 use Rattle.std.specs.Prelude.{Contains}
 use Rattle.std.specs.List.{flat_map}
 use Rattle.std.proofs.lemmas.Grind.{flat_map-append}
-use Rattle.list_laws.proofs.Members.{Contains-none, Contains-cons}
+use Rattle.list_laws.proofs.Members.{Contains-none}
 use Rattle.pool_types.specs.Script.{Script, Gets, Puts}
 use Rattle.pool_types.specs.declared.policy.RegionRec.{RegionRec}
+use Rattle.pool_types.specs.declared.values.Region.{Region}
+use Rattle.pool_types.specs.declared.rows.Keeper.TheVariants.{Orphan}
+use Rattle.part_model.specs.declared.holders.Holder.TheVariants.{Cached, Bin, Hand}
 use Rattle.part_model.specs.declared.moves.Part.{Part}
 use Rattle.part_model.specs.declared.moves.Range.{Range}
-use Rattle.size_classes.specs.Classes.{class_size, class_objects}
+use Rattle.size_classes.specs.Classes.{class_size, class_objects, class_of}
+use Rattle.size_classes.specs.Served.{served_plain}
 use Rattle.size_classes.specs.declared.Served.{Served}
-use Rattle.size_classes.specs.declared.Served.TheVariants.{Small}
-use Rattle.machine.specs.States.{State, fixed_pool}
+use Rattle.size_classes.specs.declared.Served.TheVariants.{Small, Large, Bad}
+use Rattle.machine.specs.States.{State, Slab, fixed_pool}
 use Rattle.machine.specs.Ranges.{lies_in_parts, slab_range}
 use Rattle.machine.specs.Regions.{granules_range}
 use Rattle.machine.specs.Looks.{look_of, first_bin, AreInVain}
@@ -19,13 +23,15 @@ use Rattle.machine.specs.Answers.{Call, Moment, AtStep, moved_parts}
 use Rattle.machine.specs.Callback.{raw_calls, HasAnswered, no_script}
 use Rattle.machine.specs.Cleaning.{IsCleaned}
 use Rattle.machine.specs.Events.{Progress, no_progress, after_events}
-use Rattle.machine.specs.Turns.{last_parts, is_put}
+use Rattle.machine.specs.Turns.{IsLive, last_parts, is_put}
 use Rattle.machine.specs.Runs.{IsRun}
 use Rattle.machine.specs.Laws.{IsPlainRun, WrongRunsAreRefused}
-use Rattle.machine.specs.Examples.{place_at, first_place, first_slab, behind_slab, mebibyte, scrap, block_passed_over, small_region, region_in_a_question, region_without_a_look}
-use Rattle.machine.specs.Examples.{region_not_given, slab_beside_another, failure_made_up, blocks_left_apart, realloc_without_a_look}
-use Rattle.machine.specs.Examples.{malloc_of_another_class, object_of_another_class, question_that_moves, null_beside_a_spare_slab, scrap_leaves}
-use Rattle.machine.specs.Examples.{giving_pool, blocks_that_adjoin, clock_ahead, nothing_cleaned, region_kept}
+use Rattle.machine.specs.Examples.{place_at, first_place, first_slab, second_place, behind_slab, goes_from, mebibyte}
+use Rattle.machine.specs.Examples.{block_passed_over, small_region, region_in_a_question, failure_in_a_question, region_without_a_look}
+use Rattle.machine.specs.Examples.{region_not_given, slab_beside_another, slab_beside_an_orphan, failure_made_up, blocks_left_apart}
+use Rattle.machine.specs.Examples.{realloc_without_a_look, malloc_of_another_class, object_of_another_class, question_that_moves}
+use Rattle.machine.specs.Examples.{null_beside_a_spare_slab, giving_pool, four_granules, late_region, scrap_leaves, blocks_that_adjoin}
+use Rattle.machine.specs.Examples.{block_left_queued, free_region_kept, block_beside_a_cached_one, clock_ahead, nothing_cleaned, region_kept}
 use Rattle.machine.proofs.Examples.{eight_is_small}
 
 -- the front of a list
@@ -60,6 +66,9 @@ too_small run = let enough = run.1.1.1.0.fits.sight.0.1 in omega (arith, enough)
 unwanted : IsPlainRun region_in_a_question → ⊥
 unwanted run = let clash : false ≡ true = run.1.1.0.fits.sight.0.0.wants in cc
 
+failing : IsPlainRun failure_in_a_question → ⊥
+failing run = let clash : false ≡ true = run.1.1.0.fits.sight.0.0.wants in cc
+
 -- what is left of a list in which nothing is found
 none_left : {X : Type 0} → (one other : List X) → one ++ other ≡ [] → other ≡ []
 none_left [] other is = is
@@ -86,6 +95,17 @@ not_given run = let clash = run.1.1.1.0.fits.comes in cc
 beside : IsPlainRun slab_beside_another → ⊥
 unfolding class_size class_objects
 beside run = run.1.1.1.1.1.1.1.1.1.0.fits.slabs.0.rest (place_at 200) (first_slab, (((0, lit< tt, refl), refl), refl), refl) refl
+
+-- or beside an orphan
+beside_orphan : IsRun (fixed_pool 2 1048576) slab_beside_an_orphan → ⊥
+unfolding class_size class_objects
+beside_orphan run = elim (run.1.1.1.1.1.1.1.1.1.1.1.1.0.fits.slabs.0.orphans) [
+  | inl took ↦ Contains-none _ (took orphan (((0, lit< tt, refl), refl), refl))
+  | inr never ↦ never
+]
+  where
+    orphan : Slab
+    orphan = record { place = first_place; class = 0; keeper = Orphan }
 
 -- a callback without scripts gives what it is asked for
 made_up : (after : Script) → HasAnswered Gets Puts no_script (raw_calls failure_made_up) after → ⊥
@@ -141,13 +161,56 @@ unfolding class_size class_objects
 spare run = run.1.1.1.1.1.1.1.1.1.1.1.1.1.0.fits.answered.legal.answers.1.spare.stored (place_at 0) refl
 
 -- a region without a granule leaves
-scrap_goes : IsRun giving_pool scrap_leaves → ⊥
-scrap_goes run =
-    let leaves = run.1.1.1.1.0.fits.leaves in
-    elim (Contains-cons scrap [] leaves.region leaves.live) [
-      | inl is ↦ let none : 0 < 0 = subst (λ (r : RegionRec). 0 < r.granules) (sym is) leaves.some in omega (arith, none)
-      | inr other ↦ Contains-none leaves.region other
+scrap_goes : IsRun (giving_pool 2 7) scrap_leaves → ⊥
+scrap_goes run = neither run.1.1.1.1.1.1.1.1.1.0.fits.sight.0
+  where
+    neither : IsLive (after_events no_progress (first 8 scrap_leaves)).state late_region.region → ⊥
+    neither is = one_of is.one is.live is.same is.some
+      where
+        one_of : (one : RegionRec) → Contains (four_granules ∷ late_region ∷ []) one → one.region ≡ late_region.region → 0 < one.granules → ⊥
+        one_of one (zero, below, at) same some = let clash : 1048576 ≡ 2097152 = ap (λ (r : RegionRec). r.region.base) at ∙ ap (λ (r : Region). r.base) same in omega (arith, clash)
+        one_of one (suc zero, below, at) same some = let none : 0 < 0 = subst (λ (r : RegionRec). 0 < r.granules) (sym at) some in omega (arith, none)
+        one_of one (suc (suc k), below, at) same some = omega (arith, below)
+
+-- an answer leaves a block in the queue, or a region that is to be given back
+queued : IsPlainRun block_left_queued → ⊥
+unfolding class_size class_objects
+queued run = (run.1.1.1.1.1.1.0.fits.answered.calm refl).queue second_place refl
+
+free_region : IsRun (giving_pool 1 1024) free_region_kept → ⊥
+unfolding class_size class_objects
+free_region run =
+    Contains-none 0 ((run.1.1.1.1.1.1.1.1.1.1.1.1.0.fits.answered.calm refl).given refl four_granules (0, lit< tt, refl) (lit< tt) (0, lit< tt, refl))
+
+-- a large object is cut out of bins beside a cached block of its size
+abbrev granules_in : Served → ℕ
+granules_in (Small class) = 0
+granules_in (Large granules alignment) = granules
+granules_in Bad = 0
+
+large_is : (granules alignment : ℕ) → served_plain 8129 ≡ Large granules alignment → granules ≡ 2
+unfolding served_plain class_of
+large_is granules alignment is = sym (ap granules_in is)
+
+beside_cached : IsPlainRun block_beside_a_cached_one → ⊥
+unfolding class_size class_objects
+beside_cached run =
+    let cut = run.1.1.1.1.1.1.1.1.1.1.1.1.1.1.1.0.fits.large in
+    let two : cut.granules ≡ 2 = large_is cut.granules cut.alignment cut.served in
+    elim (cut.cached) [
+      | inl came ↦ from_bins came.0 came.1 came.2
+      | inr never ↦ elim never [
+        | inl at_first ↦ at_first (place_at 0) (ap (λ n. Some (Cached n)) (sym two))
+        | inr later ↦ elim later [
+          | inl at_last ↦ at_last (place_at 0) (ap (λ n. Some (Cached n)) (sym two))
+          | inr none ↦ none
+        ]
+      ]
     ]
+  where
+    from_bins : {granules : ℕ} → (part : Part) → Contains (goes_from (slab_range second_place) Bin (Hand 0)) part → part.from ≡ Some (Cached granules) → ⊥
+    from_bins {granules = granules} part (zero, below, is) cached = let clash : Some Bin ≡ Some (Cached granules) = ap (λ (p : Part). p.from) is ∙ cached in cc
+    from_bins part (suc k, below, is) cached = omega (arith, below)
 
 -- two blocks adjoin at an answer
 adjoining : IsPlainRun blocks_that_adjoin → ⊥
@@ -170,9 +233,11 @@ wrong_runs_are_refused = record {
   passed_over = passed_over;
   too_small = too_small;
   unwanted = unwanted;
+  failing = failing;
   unlooked = unlooked;
   not_given = not_given;
   beside = beside;
+  beside_orphan = beside_orphan;
   made_up = made_up;
   left_apart = left_apart;
   unseen = unseen;
@@ -182,6 +247,9 @@ wrong_runs_are_refused = record {
   spare = spare;
   scrap = scrap_goes;
   adjoining = adjoining;
+  queued = queued;
+  free_region = free_region;
+  beside_cached = beside_cached;
   ahead = ahead;
   uncleaned = uncleaned;
   kept = kept;

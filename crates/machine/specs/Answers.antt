@@ -422,8 +422,8 @@ IsAnswerTo terms call after (Msize place) answer = IsMsizeAnswer terms.limits ca
 IsAnswerTo terms call after (Identify place) answer = IsIdentifyAnswer terms.limits call place answer
 IsAnswerTo terms call after Exit answer = IsExitAnswer call after answer
 
--- The answer is legal for a call with these steps, in the state after them: it is one to what was asked, and the seat
--- has nothing in hand any more, neither bytes nor a slab that it was about to adopt.
+-- The answer is legal for a call with these steps, in the state after them (it meets the call's specification): it is
+-- one to what was asked, and the seat has nothing in hand any more, neither bytes nor a slab that it was about to adopt.
 pub record IsLegal (terms : Terms) (call : Call) (after : State) (answer : Answer) : Type 0 where
   pub answers : IsAnswerTo terms call after call.request answer
   pub no_hand : (byte : Place) → after.held byte ≢ Some (Hand call.seat)

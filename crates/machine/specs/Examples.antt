@@ -2,25 +2,29 @@
 use Rattle.std.specs.Prelude.{ℕ, ◌+◌, ◌-◌, ◌/◌, ◌*◌, true, false, List, [], ◌∷◌, ◌++◌, Option, Some, None}
 use Rattle.pool_types.specs.declared.policy.RegionRec.{RegionRec}
 use Rattle.pool_types.specs.declared.values.Answer.{Answer}
-use Rattle.pool_types.specs.declared.values.Answer.TheVariants.{Got, Null, Freed, NoPool}
+use Rattle.pool_types.specs.declared.values.Answer.TheVariants.{Got, Null, Freed, NoPool, Exited}
 use Rattle.pool_types.specs.declared.values.Grant.{Grant}
 use Rattle.pool_types.specs.declared.values.NullCause.TheVariants.{NoFit}
 use Rattle.pool_types.specs.declared.values.Place.{Place}
-use Rattle.pool_types.specs.declared.values.Request.TheVariants.{Malloc, Realloc, Free, Msize, Identify}
-use Rattle.pool_types.specs.Geometry.{unit_bytes, granule_bytes, slab_bytes}
+use Rattle.pool_types.specs.declared.values.Region.{Region}
+use Rattle.pool_types.specs.declared.values.Request.TheVariants.{Malloc, Realloc, Free, Msize, Identify, Exit}
+use Rattle.pool_types.specs.declared.rows.Keeper.TheVariants.{Seat, Orphan}
+use Rattle.pool_types.specs.Geometry.{unit_bytes, granule_bytes, slab_granules, slab_bytes, line_bytes}
 use Rattle.pool_types.specs.Limits.{plain_region_bytes}
 use Rattle.part_model.specs.declared.holders.Holder.{Holder}
-use Rattle.part_model.specs.declared.holders.Holder.TheVariants.{Head, Rest, Private, Object, SlabCache, Bin, Hand}
+use Rattle.part_model.specs.declared.holders.Holder.TheVariants.{Head, Rest, Private, Object, LargeHead, SlabCache}
+use Rattle.part_model.specs.declared.holders.Holder.TheVariants.{Cached, Bin, Queue, Hand}
 use Rattle.part_model.specs.declared.moves.Part.{Part}
 use Rattle.part_model.specs.declared.moves.Range.{Range}
-use Rattle.machine.specs.States.{Terms, Slab, nothing_yet, fixed_pool}
+use Rattle.machine.specs.States.{Terms, Slab, nothing_yet}
 use Rattle.machine.specs.Ranges.{part_of, parts_of, region_range, slab_range, head_range, objects_range, object_range}
-use Rattle.machine.specs.Regions.{coming_parts, leaving_parts}
+use Rattle.machine.specs.Regions.{granules_range, coming_parts, leaving_parts}
 use Rattle.machine.specs.Journal.{BookChange, Enters, Leaves, Asked, Passed, Look, Sight, Nothing_seen, Bins_seen}
 use Rattle.machine.specs.Journal.{Raw_called, Tick_drawn, Turn}
-use Rattle.machine.specs.Lawful.{new_slab}
+use Rattle.machine.specs.Lawful.{new_slab, pass, large_head_range, large_object_range}
 use Rattle.machine.specs.Looks.{last_bin}
 use Rattle.machine.specs.Answers.{Moment}
+use Rattle.machine.specs.Cleaning.{cleanup_ticks}
 use Rattle.machine.specs.Events.{Kept, Event, Begins, Makes, Reset_begins, Reset_ends, Ends}
 
 -- a turn of a seat, with these parts and changes of the book
@@ -36,9 +40,12 @@ turn_of seat parts book region seen answer = record {
   answer = answer;
 }
 
--- a turn of seat 0 that moves, and one that answers
+-- a turn of a seat that moves; one of seat 0; and one of it that answers
+abbrev pub moves_of : ℕ → List Part → List BookChange → Event
+moves_of seat parts book = Makes (turn_of seat parts book None Nothing_seen None)
+
 abbrev pub moves : List Part → List BookChange → Event
-moves parts book = Makes (turn_of 0 parts book None Nothing_seen None)
+moves parts book = moves_of 0 parts book
 
 abbrev pub answers : Answer → Event
 answers answer = Makes (turn_of 0 [] [] None Nothing_seen (Some answer))
@@ -49,6 +56,14 @@ no_blocks = record { first = 1; last = last_bin; lists = [] }
 
 abbrev pub looks : ℕ → Event
 looks seat = Makes (turn_of seat [] [] None (Bins_seen no_blocks) None)
+
+-- the callback is asked for so many bytes, and gives a region or fails
+abbrev pub asks : ℕ → ℕ → Option Region → Event
+asks seat bytes answer = Makes (turn_of seat [] [] None (Raw_called (Asked bytes answer)) None)
+
+-- the region comes that the callback gave before
+abbrev pub enters : ℕ → RegionRec → Event
+enters seat region = Makes (turn_of seat (coming_parts 0 seat region) [] (Some region) Nothing_seen None)
 
 -- the callback is asked for so many bytes, and the region comes
 abbrev pub comes : ℕ → RegionRec → Event
@@ -84,13 +99,16 @@ behind_slab = region_range 0 mebibyte slab_bytes (plain_region_bytes - slab_byte
 abbrev pub goes_from : Range → Holder → Holder → List Part
 goes_from range from to = parts_of (range ∷ []) (Some from) (Some to)
 
--- a slab of a class begins at a place
+-- a slab of a class begins at a place, for a seat, and for seat 0
+abbrev pub slab_begins_of : ℕ → Place → ℕ → Event
+slab_begins_of seat place class =
+    moves_of seat
+    (part_of (head_range place class) (Some (Hand seat)) (Some Head)
+    ∷ part_of (objects_range place class) (Some (Hand seat)) (Some Rest) ∷ [])
+    (Enters (new_slab place class seat) ∷ [])
+
 abbrev pub slab_begins_at : Place → ℕ → Event
-slab_begins_at place class =
-    moves
-    (part_of (head_range place class) (Some (Hand 0)) (Some Head)
-    ∷ part_of (objects_range place class) (Some (Hand 0)) (Some Rest) ∷ [])
-    (Enters (new_slab place class 0) ∷ [])
+slab_begins_at place class = slab_begins_of 0 place class
 
 -- the first grant of seat 0, and the second
 abbrev pub grant : ℕ → Grant
@@ -158,14 +176,17 @@ small_region = Begins 0 (Malloc 8) ∷ looks 0 ∷ comes plain_region_bytes scra
 abbrev pub region_in_a_question : List Event
 region_in_a_question = Begins 0 (Msize None) ∷ comes plain_region_bytes mebibyte ∷ []
 
+-- Wrong: the callback is asked in a question for the bytes of null, and fails.
+abbrev pub failure_in_a_question : List Event
+failure_in_a_question = Begins 0 (Msize None) ∷ asks 0 plain_region_bytes None ∷ []
+
 -- Wrong: a region comes before the bins were looked at.
 abbrev pub region_without_a_look : List Event
 region_without_a_look = Begins 0 (Malloc 8) ∷ moves [] [] ∷ comes plain_region_bytes mebibyte ∷ []
 
 -- Wrong: a region comes that the callback did not give.
 abbrev pub region_not_given : List Event
-region_not_given = Begins 0 (Malloc 8) ∷ looks 0
-    ∷ Makes (turn_of 0 (coming_parts 0 0 mebibyte) [] (Some mebibyte) Nothing_seen None) ∷ []
+region_not_given = Begins 0 (Malloc 8) ∷ looks 0 ∷ enters 0 mebibyte ∷ []
 
 -- Wrong: a slab begins beside one of the same class that has objects to give.
 abbrev pub second_place : Place
@@ -179,10 +200,21 @@ slab_beside_another =
     ∷ slab_begins_at second_place 0
     ∷ []
 
+-- Wrong: a slab begins while one of the same class, which another seat left, is an orphan.
+abbrev pub slab_beside_an_orphan : List Event
+slab_beside_an_orphan =
+    first_malloc
+    ++ Begins 0 Exit
+    ∷ moves [] (pass (Seat 0) Orphan first_slab ∷ [])
+    ∷ answers Exited
+    ∷ Begins 1 (Malloc 8)
+    ∷ moves_of 1 (goes_from (slab_range second_place) Bin (Hand 1)) []
+    ∷ slab_begins_of 1 second_place 0
+    ∷ []
+
 -- Wrong of a callback that gives what is asked: the callback failed.
 abbrev pub failure_made_up : List Event
-failure_made_up = Begins 0 (Malloc 8) ∷ looks 0
-    ∷ Makes (turn_of 0 [] [] None (Raw_called (Asked plain_region_bytes None)) None) ∷ []
+failure_made_up = Begins 0 (Malloc 8) ∷ looks 0 ∷ asks 0 plain_region_bytes None ∷ []
 
 -- the object that the first malloc got comes back, and its slab ends
 abbrev pub first_comes_back : List Event
@@ -268,9 +300,9 @@ null_beside_a_spare_slab =
     })) (Some (no_fit_at 127)))
     ∷ []
 
--- a pool that gives regions back
-abbrev pub giving_pool : Terms
-giving_pool = record {
+-- a pool that gives regions back, for so many seats and of such a span
+abbrev pub giving_pool : ℕ → ℕ → Terms
+giving_pool seats span = record {
   policy = record {
     gets = true;
     frees = true;
@@ -278,19 +310,71 @@ giving_pool = record {
     granularity = 0;
     fixed = false;
     keep = false;
-    reserved =
-        0;
+    reserved = 0;
   };
-  limits = (fixed_pool 1 granule_bytes).limits;
+  limits = record { pool = 0; seats = seats; span = span; region = granule_bytes };
 }
 
--- Wrong: a region without a granule leaves, though it was passed to the callback.
+-- a region as it asks for them: room for a slab, and for two granules more
+abbrev pub four_granules : RegionRec
+four_granules = record {
+  number = 0;
+  first = 0;
+  granules = 4;
+  waste = 0;
+  region = record { base = 1048576; bytes = 4 * granule_bytes };
+}
+
+-- another of as many bytes, of which no granule has a place any more in a span of seven
+abbrev pub late_region : RegionRec
+late_region = record {
+  number = 1;
+  first = 6;
+  granules = 0;
+  waste = 0;
+  region = record { base = 2097152; bytes = 4 * granule_bytes };
+}
+
+-- Wrong: a region without a granule leaves, though it was passed to the callback. Two seats ask at once, and the region
+-- that comes first has the span's room.
 abbrev pub scrap_leaves : List Event
 scrap_leaves =
     Begins 0 (Malloc 8)
+    ∷ Begins 1 (Malloc 8)
     ∷ looks 0
-    ∷ comes granule_bytes scrap
-    ∷ Makes (turn_of 0 (leaving_parts 0 0 scrap) [] None (Raw_called (Passed scrap.region true)) None)
+    ∷ looks 1
+    ∷ asks 0 four_granules.region.bytes (Some four_granules.region)
+    ∷ asks 1 late_region.region.bytes (Some late_region.region)
+    ∷ enters 0 four_granules
+    ∷ enters 1 late_region
+    ∷ Makes (turn_of 1 (leaving_parts 0 1 late_region) [] None (Raw_called (Passed late_region.region true)) None)
+    ∷ []
+
+-- Wrong: an answer leaves a region in bins, all of it, in a pool that gives regions back.
+abbrev pub free_region_kept : List Event
+free_region_kept =
+    Begins 0 (Malloc 8)
+    ∷ looks 0
+    ∷ comes four_granules.region.bytes four_granules
+    ∷ moves (goes_from (slab_range second_place) (Hand 0) Bin) []
+    ∷ slab_begins_at first_place 0
+    ∷ first_got
+    ∷ Begins 0 (Free (Some (place_at (slab_bytes - unit_bytes))))
+    ∷ first_comes_back
+    ++ moves (goes_from (slab_range second_place) Bin (Hand 0)) []
+    ∷ moves (goes_from (granules_range 0 four_granules) (Hand 0) Bin) []
+    ∷ answers Freed
+    ∷ []
+
+-- Wrong: an answer leaves a block in the queue.
+abbrev pub block_left_queued : List Event
+block_left_queued =
+    Begins 0 (Malloc 8)
+    ∷ looks 0
+    ∷ comes plain_region_bytes mebibyte
+    ∷ moves (goes_from behind_slab (Hand 0) Queue) []
+    ∷ slab_begins_at first_place 0
+    ∷ first_got
     ∷ []
 
 -- Wrong: an answer leaves two blocks in bins that adjoin.
@@ -308,14 +392,50 @@ blocks_that_adjoin =
     ∷ first_got
     ∷ []
 
+-- the cache's clock gives this number
+abbrev pub draws : ℕ → Event
+draws tick = Makes (turn_of 0 [] [] None (Tick_drawn tick) None)
+
+-- the block of two granules at a place goes from these holders to those, a line as its head and the rest as its object
+abbrev pub large_parts : Place → Holder → Holder → Holder → Holder → List Part
+large_parts place head object head' object' =
+    part_of (large_head_range (slab_range place) line_bytes) (Some head) (Some head')
+    ∷ part_of (large_object_range (slab_range place) line_bytes) (Some object) (Some object')
+    ∷ []
+
+-- the block at a place is granted
+abbrev pub block_granted_at : Place → ℕ → List Part
+block_granted_at place number = large_parts place (Hand 0) (Hand 0) (LargeHead (grant number)) (Object (grant number))
+
+-- Wrong: a large object is cut out of a block from bins while the cache has a block of as many granules.
+abbrev pub block_beside_a_cached_one : List Event
+block_beside_a_cached_one =
+    Begins 0 (Malloc 8129)
+    ∷ draws 1
+    ∷ looks 0
+    ∷ comes plain_region_bytes mebibyte
+    ∷ moves (goes_from behind_slab (Hand 0) Bin) []
+    ∷ Makes (turn_of 0 (block_granted_at first_place 1) [] None Nothing_seen
+    (Some (Got (place_at line_bytes) (slab_bytes - line_bytes) (grant 1))))
+    ∷ Begins 0 (Free (Some (place_at line_bytes)))
+    ∷ draws 2
+    ∷ moves (large_parts first_place (LargeHead (grant 1)) (Object (grant 1)) (Hand 0) (Hand 0)) []
+    ∷ moves (goes_from (slab_range first_place) (Hand 0) (Cached slab_granules)) []
+    ∷ answers Freed
+    ∷ Begins 0 (Malloc 8129)
+    ∷ draws 3
+    ∷ moves (goes_from (slab_range second_place) Bin (Hand 0)) []
+    ∷ moves (block_granted_at second_place 2) []
+    ∷ []
+
 -- Wrong: the cache's clock passes over numbers.
 abbrev pub clock_ahead : List Event
-clock_ahead = Begins 0 (Malloc 8) ∷ Makes (turn_of 0 [] [] None (Tick_drawn 256) None) ∷ []
+clock_ahead = Begins 0 (Malloc 8) ∷ draws cleanup_ticks ∷ []
 
 -- Wrong of an answered call: it came to a number of the clock at which the cache is cleaned, and asked for no blocks
 -- to clean.
 abbrev pub nothing_cleaned : List Moment
-nothing_cleaned = record { state = nothing_yet; turn = turn_of 0 [] [] None (Tick_drawn 256) None } ∷ []
+nothing_cleaned = record { state = nothing_yet; turn = turn_of 0 [] [] None (Tick_drawn cleanup_ticks) None } ∷ []
 
 -- Wrong: at its end the pool keeps its region, though its callback takes regions back.
 abbrev pub region_kept : List Event

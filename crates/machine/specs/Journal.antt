@@ -47,9 +47,9 @@ pub data Sight : Type 0 where
   Tick_drawn : ℕ → Sight
   Items_seen : ℕ → ℕ → Sight
 
--- A turn of a seat: the number of its step, the kind of step (none in a run of whole calls), the move with all its
--- parts, the changes of the book, the record of a region that comes, what the turn found, and the answer of the call
--- that it ends. Of the number nothing is asked: a turn that makes no step has the number of another turn's.
+-- A turn of a seat (a step of a schedule): the number of its step, the kind of step (none in a run of whole calls), the
+-- move with all its parts, the changes of the book, the record of a region that comes, what the turn found, and the
+-- answer of the call that it ends. Of the number nothing is asked: a turn that makes no step has that of another turn.
 pub record Turn : Type 0 where
   pub number : ℕ
   pub seat : ℕ

@@ -77,12 +77,13 @@ large_object_range block head = range_at block.place (block.place.offset + head)
 pub record IsCut (limits : Limits) (state : State) (block : Range) (alignment head : ℕ) : Type 0 where
   pub granules : ℕ
   pub whole : IsBlock limits state block granules
+  pub open whole use {region}
   pub power : IsPowerOfTwo alignment
   pub line : line_bytes ≤ alignment
   pub least : line_bytes ≤ head
-  pub aligned : (whole.whole.region.region.base + block.place.offset + head) % alignment ≡ 0
+  pub aligned : (region.region.base + block.place.offset + head) % alignment ≡ 0
   pub first : (other : ℕ) → line_bytes ≤ other → other < head →
-      (whole.whole.region.region.base + block.place.offset + other) % alignment ≢ 0
+      (region.region.base + block.place.offset + other) % alignment ≢ 0
   pub some : head < block.bytes
 
 -- all bytes of the grant's object and of its head lie in the block

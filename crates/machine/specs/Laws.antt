@@ -3,7 +3,7 @@ use Rattle.std.specs.Prelude.{◌≡◌, ◌<◌, ℕ, ◌==◌, Bool, true, fal
 use Rattle.pool_types.specs.declared.values.Place.{Place}
 use Rattle.pool_types.specs.declared.policy.RegionRec.{RegionRec}
 use Rattle.pool_types.specs.Geometry.{granule_bytes}
-use Rattle.pool_types.specs.Limits.{plain_region_bytes}
+use Rattle.pool_types.specs.Limits.{plain_span, plain_region_bytes}
 use Rattle.part_model.specs.declared.holders.Holder.{Holder}
 use Rattle.part_model.specs.declared.holders.Holder.TheVariants.{Rest, Private, Object, Bin, Hand}
 use Rattle.part_model.specs.declared.moves.Range.{Range}
@@ -24,12 +24,13 @@ use Rattle.machine.specs.Events.{Event, Progress, no_progress, after_events}
 use Rattle.machine.specs.Turns.{MayStep, AreLists}
 use Rattle.machine.specs.Runs.{IsRun}
 use Rattle.machine.specs.Examples.{first_malloc, malloc_in_vain, block_passed_over, small_region}
-use Rattle.machine.specs.Examples.{region_in_a_question, region_without_a_look}
-use Rattle.machine.specs.Examples.{region_not_given, slab_beside_another, failure_made_up, blocks_left_apart}
-use Rattle.machine.specs.Examples.{realloc_without_a_look}
-use Rattle.machine.specs.Examples.{malloc_of_another_class, object_of_another_class, question_that_moves}
-use Rattle.machine.specs.Examples.{null_beside_a_spare_slab, scrap_leaves}
-use Rattle.machine.specs.Examples.{giving_pool, blocks_that_adjoin, clock_ahead, nothing_cleaned, region_kept}
+use Rattle.machine.specs.Examples.{region_in_a_question, failure_in_a_question, region_without_a_look}
+use Rattle.machine.specs.Examples.{region_not_given, slab_beside_another, slab_beside_an_orphan, failure_made_up}
+use Rattle.machine.specs.Examples.{blocks_left_apart, realloc_without_a_look, malloc_of_another_class}
+use Rattle.machine.specs.Examples.{object_of_another_class, question_that_moves, null_beside_a_spare_slab}
+use Rattle.machine.specs.Examples.{giving_pool, scrap_leaves, blocks_that_adjoin, block_left_queued}
+use Rattle.machine.specs.Examples.{free_region_kept, block_beside_a_cached_one, clock_ahead, nothing_cleaned}
+use Rattle.machine.specs.Examples.{region_kept}
 use Rattle.size_classes.specs.declared.Served.{Served}
 
 -- a step that may be made keeps exactly one holder a byte
@@ -115,23 +116,43 @@ IsPlainRun events = IsRun (fixed_pool 1 plain_region_bytes) events
 
 -- The runs of wrong allocators are none. That a failure is made up the callback tells.
 pub record WrongRunsAreRefused : Type 0 where
+  -- a scan passes over a block that was put before the last move of its call
   pub passed_over : IsRun (fixed_pool 2 plain_region_bytes) block_passed_over → ⊥
+  -- a region comes that is too small, in a call that wants none, before a look, or that was not given; and the callback
+  -- fails in a call that may not ask it
   pub too_small : IsPlainRun small_region → ⊥
   pub unwanted : IsPlainRun region_in_a_question → ⊥
+  pub failing : IsPlainRun failure_in_a_question → ⊥
   pub unlooked : IsPlainRun region_without_a_look → ⊥
   pub not_given : IsPlainRun region_not_given → ⊥
+  -- a slab begins beside one that has objects to give, or beside an orphan
   pub beside : IsPlainRun slab_beside_another → ⊥
+  pub beside_orphan : IsRun (fixed_pool 2 plain_region_bytes) slab_beside_an_orphan → ⊥
+  -- a failure of the callback is made up
   pub made_up : (after : Script) → HasAnswered Gets Puts no_script (raw_calls failure_made_up) after → ⊥
+  -- a reset leaves blocks that adjoin
   pub left_apart : IsPlainRun blocks_left_apart → ⊥
+  -- a realloc moves before it looks
   pub unseen : IsPlainRun realloc_without_a_look → ⊥
+  -- an object is of another class than the one that serves its request
   pub other_slab : IsPlainRun malloc_of_another_class → ⊥
   pub other_class : IsPlainRun object_of_another_class → ⊥
+  -- a question moves a block
   pub moving : IsPlainRun question_that_moves → ⊥
+  -- null is answered while a slab is in the slab cache
   pub spare : IsPlainRun null_beside_a_spare_slab → ⊥
-  pub scrap : IsRun giving_pool scrap_leaves → ⊥
+  -- a region without a granule leaves
+  pub scrap : IsRun (giving_pool 2 7) scrap_leaves → ⊥
+  -- an answer leaves blocks that adjoin, a block in the queue, or a region that is to be given back
   pub adjoining : IsPlainRun blocks_that_adjoin → ⊥
+  pub queued : IsPlainRun block_left_queued → ⊥
+  pub free_region : IsRun (giving_pool 1 plain_span) free_region_kept → ⊥
+  -- a large object is cut out of bins beside a cached block of its size
+  pub beside_cached : IsPlainRun block_beside_a_cached_one → ⊥
+  -- the cache's clock passes over numbers, or is not heeded
   pub ahead : IsPlainRun clock_ahead → ⊥
   pub uncleaned : IsCleaned nothing_cleaned → ⊥
+  -- the pool's end keeps a region that its callback takes back
   pub kept : IsPlainRun region_kept → ⊥
 
 -- a byte is in bins

@@ -1,4 +1,4 @@
--- What a scan of the bins looks at, and which block fits.
+-- What a scan of the bins (a search of the free lists) looks at, and which block fits.
 use Rattle.std.specs.Prelude.{◌≡◌, ◌≢◌, ℕ, ◌+◌, ◌-◌, ◌*◌, ◌/◌, ◌%◌, ◌≤◌, ◌&&◌, min, nat_le, true, List, [], ◌∷◌}
 use Rattle.std.specs.Prelude.{length, filter, Contains, Some}
 use Rattle.pool_types.specs.declared.values.Place.{Place}
@@ -98,10 +98,15 @@ abbrev pub IsOwnByte : State → ℕ → ℕ → Place → Type 0
 IsOwnByte state seat class byte = (slab : Slab) × IsKeptOf state class (Seat seat) slab
     × (lies_in byte (slab_range slab.place) ≡ true)
 
--- no slab of the class that the seat keeps has an object to give, and it has no slab in its slab cache
-pub record NoneFree (state : State) (seat class : ℕ) : Type 0 where
+-- no slab of the class that the seat keeps has an object to give
+pub record NoneToGive (state : State) (seat class : ℕ) : Type 0 where
   pub rest : (byte : Place) → IsOwnByte state seat class byte → state.held byte ≢ Some Rest
   pub private : (byte : Place) → IsOwnByte state seat class byte → state.held byte ≢ Some Private
+
+-- nor has the seat a slab in its slab cache
+pub record NoneFree (state : State) (seat class : ℕ) : Type 0 where
+  pub given : NoneToGive state seat class
+  pub open given use *
   pub stored : (byte : Place) → state.held byte ≢ Some (SlabCache seat)
 
 -- no object of a slab of the class that the seat keeps was freed by another seat and not yet taken back, and no slab

@@ -86,13 +86,15 @@ IsOffBook state range = (slab : Slab) → Contains state.book slab → IsApart r
 -- the range is a block: so many whole granules of a live region, of which no slab of the book has a byte
 pub record IsBlock (limits : Limits) (state : State) (range : Range) (granules : ℕ) : Type 0 where
   pub whole : IsGranules limits state range granules
+  pub open whole use *
   pub free : IsOffBook state range
 
 -- a slab can be here: two granules, of which the first has an address that is a multiple of a slab's bytes, that are
 -- in no slab of the book
 pub record IsSlabRoom (limits : Limits) (state : State) (place : Place) : Type 0 where
   pub block : IsBlock limits state (slab_range place) slab_granules
-  pub even : (block.whole.region.region.base + place.offset) % slab_bytes ≡ 0
+  pub open block use *
+  pub even : (region.region.base + place.offset) % slab_bytes ≡ 0
 
 -- what lies in a slab before its objects
 abbrev pub head_range : Place → ℕ → Range

@@ -59,7 +59,7 @@ IsRunFrom terms progress [] = Unit {0}
 IsRunFrom terms progress (event ∷ events) = MayHappen terms progress event
     × IsRunFrom terms (after_event progress event) events
 
--- the events are a run of the partition machine, from no region on, of a pool that can be made
+-- The events are a run of the partition machine (an execution of it), from no region on, of a pool that can be made.
 abbrev pub IsRun : Terms → List Event → Type 0
 IsRun terms events = IsAllowed terms.policy terms.limits × IsRunFrom terms no_progress events
 

@@ -9,7 +9,7 @@ use Rattle.pool_types.specs.declared.values.Answer.{Answer}
 use Rattle.pool_types.specs.declared.values.Place.{Place}
 use Rattle.pool_types.specs.declared.values.Region.{Region}
 use Rattle.pool_types.specs.declared.rows.Keeper.TheVariants.{Orphan, Hand as InHand}
-use Rattle.part_model.specs.declared.holders.Holder.TheVariants.{Rest, Private, Bin, Queue, Hand, Cached}
+use Rattle.part_model.specs.declared.holders.Holder.TheVariants.{Bin, Queue, Hand, Cached}
 use Rattle.part_model.specs.declared.holders.HolderKind.TheVariants.{Bin as OfBin, Queue as OfQueue}
 use Rattle.part_model.specs.declared.holders.HolderKind.TheVariants.{LargeHead as OfLargeHead}
 use Rattle.part_model.specs.declared.moves.Range.{Range}
@@ -27,7 +27,7 @@ use Rattle.machine.specs.Journal.{BookChange, Enters, Leaves, Passes, RawCall, A
 use Rattle.machine.specs.Journal.{Bins_seen, Raw_called, Tick_drawn, Items_seen}
 use Rattle.machine.specs.Journal.{Turn, is_object, after_turn}
 use Rattle.machine.specs.Lawful.{IsKeptOf, pass, IsLawful, IsCut, large_head_range, large_object_range}
-use Rattle.machine.specs.Looks.{served_for, IsOwnByte, NoneFree, NoneWaits}
+use Rattle.machine.specs.Looks.{served_for, NoneToGive, NoneFree, NoneWaits}
 use Rattle.machine.specs.Suits.{wants_object, place_to_free}
 use Rattle.machine.specs.Answers.{Moment, Call, AtStep, IsAccepted, LooksInVain, granted, same_object, moved_parts}
 use Rattle.machine.specs.Answers.{granules_for, IsLegal}
@@ -70,6 +70,10 @@ Adjoins one other =
     (same_region one.place other.place ≡ true)
     × ((one.place.offset + one.bytes ≡ other.place.offset) ⊎ (other.place.offset + other.bytes ≡ one.place.offset))
 
+-- no two of the blocks adjoin
+abbrev pub NoneAdjoin : List Range → Type 0
+NoneAdjoin blocks = (one other : Range) → Contains blocks one → Contains blocks other → Adjoins one other → ⊥
+
 -- The lists of a look are those of the bins. Their blocks are whole granules and have no byte in common. Each is a
 -- block in bins, as it was put or as it was left, or another seat that is in a call has won it and not yet taken it
 -- out of its list. A byte in bins lies in one of them, unless another call that is open has put its block and perhaps
@@ -82,8 +86,7 @@ pub record AreLists (terms : Terms) (progress : Progress) (seat : ℕ) (lists : 
       ⊎ ((call : Call) × IsOtherCall progress seat call × (progress.state.held byte ≡ Some (Hand call.seat)))
   pub all : (byte : Place) → progress.state.held byte ≡ Some Bin →
       ((block : Range) × Contains lists block × (lies_in byte block ≡ true)) ⊎ IsJustPut progress seat byte
-  pub joined : progress.overlapped ≡ false → (one other : Range) → Contains lists one → Contains lists other →
-      Adjoins one other → ⊥
+  pub joined : progress.overlapped ≡ false → NoneAdjoin lists
   pub blocks : (block : Range) → Contains lists block →
       Contains progress.state.blocks block ⊎ IsWon progress seat block
 
@@ -223,8 +226,8 @@ TookOrphans seat class (moment ∷ moments) =
 pub record MayBeginSlab (state : State) (call : Call) (class : ℕ) : Type 0 where
   pub served : served_for call.request ≡ Small class
   pub none_yet : granted (moved_parts call.moments) ≡ []
-  pub rest : (byte : Place) → IsOwnByte state call.seat class byte → state.held byte ≢ Some Rest
-  pub private : (byte : Place) → IsOwnByte state call.seat class byte → state.held byte ≢ Some Private
+  pub own : NoneToGive state call.seat class
+  pub open own use *
   pub orphans : TookOrphans call.seat class call.moments
   pub waits : call.alone ≡ true → NoneWaits state call.seat class
 
@@ -261,7 +264,7 @@ pub record IsCutFor (terms : Terms) (state : State) (call : Call) (parts : List 
 -- in bins but those that a reset left so.
 pub record IsCalm (terms : Terms) (state : State) (untouched : List ℕ) : Type 0 where
   pub queue : (byte : Place) → state.held byte ≢ Some Queue
-  pub joined : (one other : Range) → Contains state.blocks one → Contains state.blocks other → Adjoins one other → ⊥
+  pub joined : NoneAdjoin state.blocks
   pub given : (terms.policy.fixed || terms.policy.keep) ≡ false → (region : RegionRec) →
       Contains state.regions region → 0 < region.granules →
       Contains state.blocks (granules_range terms.limits.pool region) → Contains untouched region.number

@@ -1,6 +1,7 @@
 //! Laws of the lawful moves and of runs. Each is what a function with an empty body ensures.
 ghost use Rattle.machine.specs.Callback.{ScriptsAnswerOnce};
 ghost use Rattle.machine.specs.Ledger.{HeldAreGrantedLessFreed, HeldAreGotLessFreed};
+ghost use Rattle.machine.specs.Stored.{JournalsTellAll};
 ghost use Rattle.machine.specs.Laws.{StepsKeepOneHolder, ApartStepsCommute, TotalsFollowSteps, GrantsAreFresh};
 ghost use Rattle.machine.specs.Laws.{RunsHaveOneHolder, RunsSumToTheirRegions, RunsExist, LooksMissNone};
 ghost use Rattle.machine.specs.Laws.{WrongRunsAreRefused};
@@ -64,12 +65,19 @@ pub fn held_are_got_less_freed()
     ensures { HeldAreGotLessFreed }
 {}
 
-/// Short runs of wrong allocators are none: each breaks one rule. A scan passes over a block; a region comes too
-/// small, unwanted, before a look or not from the callback; a failure is made up; a slab begins beside one with
-/// objects to give; an object is of another class than its request; a reset or an answer leaves blocks that adjoin; a
-/// realloc moves before it looks; a question moves; a null leaves a slab in the slab cache; a region without a granule
-/// leaves; the cache's clock passes over numbers or is not heeded; and at the pool's end a region is kept that its
-/// callback would take back.
+/// The journal of a run tells all that its turns moved, which slabs went from one keeper to another, and all answers, in
+/// their order. An entry has at most four parts.
+pub fn journals_tell_all()
+    ensures { JournalsTellAll }
+{}
+
+/// Short runs of wrong allocators are none: each breaks one rule, at its last event. A scan passes over a block; a
+/// region comes too small, unwanted, before a look or not from the callback; the callback is asked by a call that may
+/// not, or a failure of it is made up; a slab begins beside one with objects to give or beside an orphan; an object is
+/// of another class than its request, or is cut out of bins though the cache has a block for it; a reset or an answer
+/// leaves blocks that adjoin, a block in the queue or a region to be given back; a realloc moves before it looks; a
+/// question moves; a null leaves a slab in the slab cache; a region without a granule leaves; the cache's clock passes
+/// over numbers or is not heeded; and at the pool's end a region is kept that its callback would take back.
 pub fn wrong_runs_are_refused()
     ensures { WrongRunsAreRefused }
 {}
