@@ -41,8 +41,7 @@ good_from lists good few = record {
   slabs_are = good.slabs_are;
   stored_are = good.stored_are;
   blocks_are = good.blocks_are;
-  once = λ granule. let once = good.once granule in omega (arith, once);
-  parted = good.parted;
+  each_once = record { once = λ granule. let once = good.once granule in omega (arith, once); parted = good.parted };
   few = few;
   numbers = good.numbers;
   apart = good.apart;
@@ -60,8 +59,7 @@ fresh_good = record {
   slabs_are = λ slab inside. absurd (Contains-none slab inside);
   stored_are = λ index inside. absurd (Contains-none index inside);
   blocks_are = λ block inside. absurd (Contains-none block inside);
-  once = λ granule. refl;
-  parted = λ one other inside. absurd (Contains-none one inside);
+  each_once = record { once = λ granule. refl; parted = λ one other inside. absurd (Contains-none one inside) };
   few = omega arith;
   numbers = λ slab object number inside. absurd (Contains-none slab inside);
   apart = λ one other i j number inside. absurd (Contains-none one inside);

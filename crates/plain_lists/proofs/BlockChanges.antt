@@ -1,5 +1,5 @@
 -- The lists after a slab was cut out of a block, after a region came, and after a slab's room was put.
-use Rattle.std.proofs.Common.{◌≡◌, ◌≢◌, ℕ, ◌+◌, ◌%◌, Bool, true, false, ◌&&◌, nat_lt, inl, inr, List, [], ◌∷◌, ◌++◌, Some, None, refl, ap, ◌∙◌, subst, arith}
+use Rattle.std.proofs.Common.{◌≡◌, ◌≢◌, ℕ, ◌+◌, ◌%◌, Bool, true, false, ◌&&◌, nat_lt, inl, inr, List, ◌∷◌, ◌++◌, Some, None, refl, ap, ◌∙◌, subst, arith}
 use Rattle.std.specs.Prelude.{Contains, if◌then◌else◌}
 use Rattle.std.proofs.lemmas.Bool.{le-leb}
 use Rattle.plain_lists.specs.Lists.{Block, Lists, first_region, whole_block, lies_on}
@@ -93,9 +93,6 @@ no_block rooms lists good none block inside =
 -- what is left of a region after its first slab was cut out
 abbrev pub left_block : Block
 left_block = record { first = 2; granules = 126 }
-
-pub rests-whole : rests whole_block ≡ left_block ∷ []
-rests-whole = refl
 
 -- the granules of the region
 pub region-on : (granule : ℕ) → one_if (lies_on 0 128 granule) ≡ (if has_granule (Some first_region) granule then 1 else 0)

@@ -23,4 +23,4 @@ pub reached_are_good : ReachedAreGood
 reached_are_good requests served = after_good no_lists requests fresh_good served
 
 pub calls_part_each : CallsPartEach
-calls_part_each requests served = let good : AreGood (lists_after no_lists requests) = reached_are_good requests served in record { once = good.once; joined = good.parted }
+calls_part_each requests served = (reached_are_good requests served).each_once

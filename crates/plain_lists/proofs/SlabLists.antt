@@ -5,7 +5,7 @@ use Rattle.std.specs.declared.option.Option.{Option}
 use Rattle.std.proofs.lemmas.Bool.{eq-eqb, ne_eqb, eqb-true, eqb-false, not-true, true≢false}
 use Rattle.plain_lists.specs.Lists.{OwnSlab, lies_on, changed, without}
 use Rattle.plain_lists.specs.Good.{slabs_on}
-use Rattle.list_laws.proofs.Members.{Contains-first, Contains-other, Contains-map, Contains-map_from, Contains-filter, Contains-filter_from}
+use Rattle.list_laws.proofs.Members.{Contains-first, Contains-other, Contains-map, Contains-map_from, Contains-filter}
 use Rattle.list_laws.proofs.Finds.{find-Some, find-None}
 use Rattle.list_laws.proofs.Counts.{one_if, count_in, count-same, count-map, count-split, count-found, count-more, count-some}
 use Rattle.plain_lists.proofs.Granules.{lies_on-true}
@@ -64,10 +64,6 @@ pub Contains-without : (index : ℕ) (slabs : List OwnSlab) (one : OwnSlab) → 
 Contains-without index slabs one inside =
     let (was, other) = Contains-filter (λ slab. not (slab.index == index)) slabs one inside in
     (was, eqb-false one.index index (not-true (one.index == index) other))
-
-pub Contains-without_from : (index : ℕ) (slabs : List OwnSlab) (one : OwnSlab) → Contains slabs one → one.index ≢ index → Contains (without index slabs) one
-Contains-without_from index slabs one inside other =
-    Contains-filter_from (λ slab. not (slab.index == index)) slabs one inside (ap not (ne_eqb one.index index other))
 
 -- a slab has its first granule
 pub slabs_on-first : (slabs : List OwnSlab) (slab : OwnSlab) → Contains slabs slab → 0 < slabs_on slab.index slabs

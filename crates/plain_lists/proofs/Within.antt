@@ -1,12 +1,12 @@
 -- What has a granule lies in the region, and nothing else has it.
-use Rattle.std.proofs.Common.{◌≡◌, ℕ, ◌+◌, ◌-◌, ◌<◌, ◌≤◌, Bool, true, false, ◌==◌, ◌⊎◌, inl, inr, nat_lt, List, Some, None, refl, ap, ◌∙◌, arith}
+use Rattle.std.proofs.Common.{◌≡◌, ℕ, ◌+◌, ◌-◌, ◌<◌, ◌≤◌, Bool, true, false, nat_lt, List, Some, None, refl, ap, ◌∙◌, arith}
 use Rattle.std.specs.Prelude.{Contains, if◌then◌else◌}
 use Rattle.std.specs.declared.option.Option.{Option}
-use Rattle.std.proofs.lemmas.Bool.{ltb-true, lt-ltb, eqb-true, cases_lt}
+use Rattle.std.proofs.lemmas.Bool.{ltb-true}
 use Rattle.pool_types.specs.declared.values.Region.{Region}
 use Rattle.plain_lists.specs.Lists.{OwnSlab, Block, Lists, first_region, lies_on}
-use Rattle.plain_lists.specs.Good.{slabs_on, stored_on, blocks_on, has_granule, times}
-use Rattle.list_laws.proofs.Counts.{count-some, count-more, count-only, count-exists}
+use Rattle.plain_lists.specs.Good.{slabs_on, stored_on, blocks_on, has_granule}
+use Rattle.list_laws.proofs.Counts.{count-some, count-only}
 use Rattle.plain_lists.proofs.Granules.{lies_on-true}
 use Rattle.plain_lists.proofs.Blocks.{has}
 use Rattle.plain_lists.proofs.Beside.{AreGoodBeside, at_most_once}
@@ -64,79 +64,3 @@ only_slab rooms lists good granule one other in_one in_other has_one has_other =
 pub one_slab : (rooms : List ℕ) (lists : Lists) → AreGoodBeside rooms lists → (one other : OwnSlab) → Contains lists.slabs one → Contains lists.slabs other → one.index ≡ other.index → one ≡ other
 one_slab rooms lists good one other in_one in_other same =
     only_slab rooms lists good one.index one other in_one in_other (lies_on-true one.index 2 one.index (omega arith) (omega arith)) (lies_on-true other.index 2 one.index (omega (arith, same)) (omega (arith, same)))
-
--- a slab is in the slab cache once at most
-pub stored_once : (rooms : List ℕ) (lists : Lists) → AreGoodBeside rooms lists → (index : ℕ) → times index lists.stored ≤ 1
-stored_once rooms lists good index =
-    let once = at_most_once rooms lists good index in
-    let more = count-more (λ other. other == index) (λ other. lies_on other 2 index) lists.stored
-    (λ other inside same. let is = eqb-true other index same in lies_on-true other 2 index (omega (arith, is)) (omega (arith, is))) in
-    omega (arith, once, more)
-
--- a slab shares no granule with a slab of the slab cache, with a block, and with room that is in hand
-pub slab-stored_apart : (rooms : List ℕ) (lists : Lists) → AreGoodBeside rooms lists → (granule : ℕ) (slab : OwnSlab) (index : ℕ) → Contains lists.slabs slab → Contains lists.stored index →
-    lies_on slab.index 2 granule ≡ true → lies_on index 2 granule ≡ true → ⊥
-slab-stored_apart rooms lists good granule slab index in_slabs in_stored has_slab has_stored =
-    let once = at_most_once rooms lists good granule in
-    let one = count-some (λ (other : OwnSlab). lies_on other.index 2 granule) lists.slabs slab in_slabs has_slab in
-    let other = count-some (λ other. lies_on other 2 granule) lists.stored index in_stored has_stored in omega (arith, once, one, other)
-
-pub slab-block_apart : (rooms : List ℕ) (lists : Lists) → AreGoodBeside rooms lists → (granule : ℕ) (slab : OwnSlab) (block : Block) → Contains lists.slabs slab → Contains lists.blocks block →
-    lies_on slab.index 2 granule ≡ true → has granule block ≡ true → ⊥
-slab-block_apart rooms lists good granule slab block in_slabs in_blocks has_slab has_block =
-    let once = at_most_once rooms lists good granule in
-    let one = count-some (λ (other : OwnSlab). lies_on other.index 2 granule) lists.slabs slab in_slabs has_slab in
-    let other = count-some (has granule) lists.blocks block in_blocks has_block in omega (arith, once, one, other)
-
-pub slab-room_apart : (rooms : List ℕ) (lists : Lists) → AreGoodBeside rooms lists → (granule : ℕ) (slab : OwnSlab) (index : ℕ) → Contains lists.slabs slab → Contains rooms index →
-    lies_on slab.index 2 granule ≡ true → lies_on index 2 granule ≡ true → ⊥
-slab-room_apart rooms lists good granule slab index in_slabs in_rooms has_slab has_room =
-    let once = at_most_once rooms lists good granule in
-    let one = count-some (λ (other : OwnSlab). lies_on other.index 2 granule) lists.slabs slab in_slabs has_slab in
-    let other = count-some (λ other. lies_on other 2 granule) rooms index in_rooms has_room in omega (arith, once, one, other)
-
--- a slab of the slab cache shares none with a block, and with room that is in hand
-pub stored-block_apart : (rooms : List ℕ) (lists : Lists) → AreGoodBeside rooms lists → (granule index : ℕ) (block : Block) → Contains lists.stored index → Contains lists.blocks block →
-    lies_on index 2 granule ≡ true → has granule block ≡ true → ⊥
-stored-block_apart rooms lists good granule index block in_stored in_blocks has_stored has_block =
-    let once = at_most_once rooms lists good granule in
-    let one = count-some (λ other. lies_on other 2 granule) lists.stored index in_stored has_stored in
-    let other = count-some (has granule) lists.blocks block in_blocks has_block in omega (arith, once, one, other)
-
-pub stored-room_apart : (rooms : List ℕ) (lists : Lists) → AreGoodBeside rooms lists → (granule index room : ℕ) → Contains lists.stored index → Contains rooms room →
-    lies_on index 2 granule ≡ true → lies_on room 2 granule ≡ true → ⊥
-stored-room_apart rooms lists good granule index room in_stored in_rooms has_stored has_room =
-    let once = at_most_once rooms lists good granule in
-    let one = count-some (λ other. lies_on other 2 granule) lists.stored index in_stored has_stored in
-    let other = count-some (λ other. lies_on other 2 granule) rooms room in_rooms has_room in omega (arith, once, one, other)
-
--- and a block none with room that is in hand
-pub block-room_apart : (rooms : List ℕ) (lists : Lists) → AreGoodBeside rooms lists → (granule : ℕ) (block : Block) (room : ℕ) → Contains lists.blocks block → Contains rooms room →
-    has granule block ≡ true → lies_on room 2 granule ≡ true → ⊥
-block-room_apart rooms lists good granule block room in_blocks in_rooms has_block has_room =
-    let once = at_most_once rooms lists good granule in
-    let one = count-some (has granule) lists.blocks block in_blocks has_block in
-    let other = count-some (λ other. lies_on other 2 granule) rooms room in_rooms has_room in omega (arith, once, one, other)
-
--- a granule of the region is somewhere: in room that is in hand, in a slab, in a slab of the slab cache or in a block
-pub granule_somewhere : (rooms : List ℕ) (lists : Lists) → AreGoodBeside rooms lists → (granule : ℕ) → lists.region ≡ Some first_region → granule < 128 →
-    ((index : ℕ) × Contains rooms index × (lies_on index 2 granule ≡ true))
-    ⊎ (((slab : OwnSlab) × Contains lists.slabs slab × (lies_on slab.index 2 granule ≡ true))
-    ⊎ (((index : ℕ) × Contains lists.stored index × (lies_on index 2 granule ≡ true))
-    ⊎ ((block : Block) × Contains lists.blocks block × (has granule block ≡ true))))
-granule_somewhere rooms lists good granule came below =
-    elim (cases_lt 0 (stored_on granule rooms)) [
-      | inl some ↦ inl (count-exists (λ index. lies_on index 2 granule) rooms some)
-      | inr no_room ↦ elim (cases_lt 0 (slabs_on granule lists.slabs)) [
-        | inl some ↦ inr (inl (count-exists (λ (slab : OwnSlab). lies_on slab.index 2 granule) lists.slabs some))
-        | inr no_slab ↦ elim (cases_lt 0 (stored_on granule lists.stored)) [
-          | inl some ↦ inr (inr (inl (count-exists (λ index. lies_on index 2 granule) lists.stored some)))
-          | inr no_stored ↦ inr (inr (inr (count-exists (has granule) lists.blocks (omega (arith, one, no_room, no_slab, no_stored)))))
-        ]
-      ]
-    ]
-  where
-    one : holders_of rooms lists granule ≡ 1
-    one =
-        good.once granule ∙ ap (λ region. if has_granule region granule then 1 else 0) came
-        ∙ ap (λ (b : Bool). if b then 1 else 0) (lt-ltb granule 128 below)

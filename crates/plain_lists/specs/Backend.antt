@@ -1,6 +1,7 @@
 -- What the backend does with the blocks in bins.
 use Prim.Native.Nat.{zero, suc}
-use Rattle.std.specs.Prelude.{ℕ, ◌+◌, ◌-◌, ◌%◌, Bool, ◌&&◌, ◌||◌, ◌==◌, not, min, nat_le, List, [], ◌∷◌, ◌++◌, if◌then◌else◌, find, filter, Some, None}
+use Rattle.std.specs.Prelude.{ℕ, ◌+◌, ◌-◌, ◌%◌, Bool, ◌&&◌, ◌||◌, ◌==◌, not, min, nat_le, List, [], ◌∷◌, ◌++◌}
+use Rattle.std.specs.Prelude.{if◌then◌else◌, find, filter, Some, None}
 use Rattle.std.specs.declared.option.Option.{Option}
 use Rattle.plain_lists.specs.Lists.{Block}
 
@@ -19,7 +20,8 @@ fits block = nat_le (even_from block.first + 2) (block.first + block.granules)
 -- the first block that fits, of the bins from this one on, each from its newest block on; so many bins are looked at
 unfoldable pub fit_from : ℕ → ℕ → List Block → Option Block
 fit_from zero bin blocks = None
-fit_from (suc more) bin blocks = or_later (find (λ block. (bin_of block == bin) && fits block) blocks) (fit_from more (bin + 1) blocks)
+fit_from (suc more) bin blocks =
+    or_later (find (λ block. (bin_of block == bin) && fits block) blocks) (fit_from more (bin + 1) blocks)
   where
     or_later : Option Block → Option Block → Option Block
     or_later (Some block) later = Some block
@@ -37,8 +39,8 @@ is_same one other = one.first == other.first
 abbrev pub some_block : ℕ → ℕ → List Block
 some_block first granules = if granules == 0 then [] else record { first = first; granules = granules } ∷ []
 
--- What is left of a block where a slab is cut out of it at the least even index: what lies in front of the slab goes into its bin first,
--- and then what lies behind it.
+-- What is left of a block where a slab is cut out of it at the least even index: what lies in front of the slab goes
+-- into its bin first, and then what lies behind it.
 abbrev pub rests : Block → List Block
 rests block =
     some_block (even_from block.first + 2) (block.first + block.granules - (even_from block.first + 2))

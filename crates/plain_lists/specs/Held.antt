@@ -29,7 +29,22 @@ block_bytes block = 8192 * block.granules
 
 -- a pool that has no region
 abbrev pub no_bytes : Totals
-no_bytes = record { regions = 0; bytes = 0; waste = 0; head = 0; rest = 0; private = 0; public = 0; object = 0; large_head = 0; slab_cache = 0; cached = 0; bin = 0; queue = 0; hand = 0 }
+no_bytes = record {
+  regions = 0;
+  bytes = 0;
+  waste = 0;
+  head = 0;
+  rest = 0;
+  private = 0;
+  public = 0;
+  object = 0;
+  large_head = 0;
+  slab_cache = 0;
+  cached = 0;
+  bin = 0;
+  queue = 0;
+  hand = 0;
+}
 
 -- the totals of the pool, where it has this region
 abbrev pub totals_in : Option Region → Lists → Totals
@@ -51,10 +66,15 @@ totals_at lists = totals_in lists.region lists
 
 -- an object of the slab that is held under the number, where it is held
 abbrev pub leak_at : OwnSlab → ℕ → Option ℕ → List Leak
-leak_at slab object (Some number) = record { place = place_at slab.index slab.class object; usable = class_size slab.class; grant = grant_of number } ∷ []
+leak_at slab object (Some number) = record {
+  place = place_at slab.index slab.class object;
+  usable = class_size slab.class;
+  grant = grant_of number;
+} ∷ []
 leak_at slab object None = []
 
--- The objects of a slab that are held, of those that these are from the given one on. A later object lies lower, so it stands first.
+-- The objects of a slab that are held, of those that these are from the given one on. A later object lies lower, so
+-- it stands first.
 abbrev pub leaks_of : OwnSlab → ℕ → List (Option ℕ) → List Leak
 leaks_of slab object [] = []
 leaks_of slab object (held ∷ more) = leaks_of slab (object + 1) more ++ leak_at slab object held
@@ -67,7 +87,8 @@ slab_leaks None = []
 -- the objects in so many slabs' room from the index on
 unfoldable pub leaks_from : ℕ → ℕ → List OwnSlab → List Leak
 leaks_from zero index slabs = []
-leaks_from (suc rooms) index slabs = slab_leaks (find (λ slab. slab.index == index) slabs) ++ leaks_from rooms (index + 2) slabs
+leaks_from (suc rooms) index slabs =
+    slab_leaks (find (λ slab. slab.index == index) slabs) ++ leaks_from rooms (index + 2) slabs
 
 -- all objects of the pool that are held, by region and offset: the region has room for 64 slabs
 abbrev pub leaks_at : Lists → List Leak

@@ -1,12 +1,13 @@
 -- What a fixed pool has for its one thread, as plain lists.
-use Rattle.std.specs.Prelude.{ℕ, ◌+◌, Bool, ◌&&◌, ◌||◌, ◌==◌, not, nat_le, nat_lt, if◌then◌else◌, List, [], ◌∷◌, ◌++◌, length, map, filter, slice_set, Some, None}
+use Rattle.std.specs.Prelude.{ℕ, ◌+◌, Bool, ◌&&◌, ◌||◌, ◌==◌, not, nat_le, nat_lt, if◌then◌else◌, List, [], ◌∷◌, ◌++◌}
+use Rattle.std.specs.Prelude.{length, map, filter, slice_set, Some, None}
 use Rattle.std.specs.declared.option.Option.{Option}
 use Rattle.pool_types.specs.declared.values.Region.{Region}
 use Rattle.size_classes.specs.Classes.{class_objects}
 
--- A slab that the thread keeps: the index of its first granule, its class, and what became of the objects that were handed out, in
--- their order: each has the number of the grant under which it is held, or none where it came back. Those that came back are private;
--- they stand in a list of their own, the newest first.
+-- A slab that the thread keeps: the index of its first granule, its class, and what became of the objects that were
+-- handed out, in their order: each has the number of the grant under which it is held, or none where it came back.
+-- Those that came back are private; they stand in a list of their own, the newest first.
 pub record OwnSlab : Type 0 where
   pub index : ℕ
   pub class : ℕ
@@ -18,9 +19,9 @@ pub record Block : Type 0 where
   pub first : ℕ
   pub granules : ℕ
 
--- What the pool has: its region, its slabs, the newest first, the slabs in its slab cache, the oldest first, the blocks in bins, the
--- newest first, and how many objects were granted. The list of a class is that of its slabs, in this order, and the list of a bin that
--- of its blocks.
+-- What the pool has: its region, its slabs, the newest first, the slabs in its slab cache, the oldest first, the
+-- blocks in bins, the newest first, and how many objects were granted. The list of a class is that of its slabs, in
+-- this order, and the list of a bin that of its blocks.
 pub record Lists : Type 0 where
   pub region : Option Region
   pub slabs : List OwnSlab
@@ -50,7 +51,8 @@ begun index class = record { index = index; class = class; objects = []; private
 
 -- the slab is of the class, and has an object to give: a private one, or one that was not handed out
 abbrev pub has_free : ℕ → OwnSlab → Bool
-has_free class slab = (slab.class == class) && (nat_lt 0 (length slab.private) || nat_lt (length slab.objects) (class_objects class))
+has_free class slab =
+    (slab.class == class) && (nat_lt 0 (length slab.private) || nat_lt (length slab.objects) (class_objects class))
 
 -- the object that the slab gives next: the newest private one, or else the next that was not handed out
 abbrev pub next_object : OwnSlab → ℕ

@@ -1,5 +1,6 @@
 -- What a whole call does to the lists, and what it answers.
-use Rattle.std.specs.Prelude.{ℕ, ◌+◌, ◌-◌, ◌*◌, ◌/◌, ◌%◌, ◌≤◌, Bool, ◌&&◌, ◌==◌, nat_le, nat_lt, if◌then◌else◌, List, [], ◌∷◌, ◌++◌, length, take, drop, find, slice_get, is_some, unwrap_or, Some, None}
+use Rattle.std.specs.Prelude.{ℕ, ◌+◌, ◌-◌, ◌*◌, ◌/◌, ◌%◌, ◌≤◌, Bool, ◌&&◌, ◌==◌, nat_le, nat_lt, if◌then◌else◌, List}
+use Rattle.std.specs.Prelude.{[], ◌∷◌, ◌++◌, length, take, drop, find, slice_get, is_some, unwrap_or, Some, None}
 use Rattle.std.specs.declared.option.Option.{Option}
 use Rattle.pool_types.specs.declared.values.Place.{Place}
 use Rattle.pool_types.specs.declared.values.Grant.{Grant}
@@ -13,7 +14,8 @@ use Rattle.pool_types.specs.declared.values.Found.{Found}
 use Rattle.pool_types.specs.declared.values.Found.TheVariants.{NoPlace, NoGrant}
 use Rattle.size_classes.specs.Classes.{class_size, class_of}
 use Rattle.size_classes.specs.Layout.{object_offset}
-use Rattle.plain_lists.specs.Lists.{OwnSlab, Block, Lists, first_region, whole_block, lies_on, begun, has_free, next_object, given, taken_back, is_unused, changed, without}
+use Rattle.plain_lists.specs.Lists.{OwnSlab, Block, Lists, first_region, whole_block, lies_on, begun, has_free}
+use Rattle.plain_lists.specs.Lists.{next_object, given, taken_back, is_unused, changed, without}
 use Rattle.plain_lists.specs.Backend.{first_fit, even_from, rests, after_cut, after_puts}
 
 -- the lists after a call, and its answer
@@ -33,8 +35,8 @@ place_at index class object = record { pool = 0; region = 0; offset = 8192 * ind
 abbrev pub got : ℕ → ℕ → ℕ → ℕ → Answer
 got index class object number = Got (place_at index class object) (class_size class) (grant_of number)
 
--- The answer that no block fits: of 511 bins that were looked at, none had a block. Each block has room for a slab as long as slabs alone
--- are cut out.
+-- The answer that no block fits: of 511 bins that were looked at, none had a block. Each block has room for a slab as
+-- long as slabs alone are cut out.
 abbrev pub no_fit : Answer
 no_fit = Null (NoFit (record { first = 1; last = 511; seen = 0 }))
 
@@ -64,17 +66,26 @@ newest stored = slice_get stored (length stored - 1)
 
 -- room that a new region has: its first slab; what is left of it goes into a bin
 abbrev pub region_room : Lists → Option Region → Option Room
-region_room lists None = Some (record { lists = record lists { region = Some first_region; blocks = rests whole_block ++ lists.blocks }; index = even_from whole_block.first })
+region_room lists None = Some (record {
+  lists = record lists { region = Some first_region; blocks = rests whole_block ++ lists.blocks };
+  index = even_from whole_block.first;
+})
 region_room lists (Some region) = None
 
 -- room that a block has which fits, or else a new region
 abbrev pub block_room : Lists → Option Block → Option Room
-block_room lists (Some block) = Some (record { lists = record lists { blocks = after_cut block lists.blocks }; index = even_from block.first })
+block_room lists (Some block) = Some (record {
+  lists = record lists { blocks = after_cut block lists.blocks };
+  index = even_from block.first;
+})
 block_room lists None = region_room lists lists.region
 
 -- room that the slab cache has, or else the backend
 abbrev pub stored_room : Lists → Option ℕ → Option Room
-stored_room lists (Some index) = Some (record { lists = record lists { stored = take (length lists.stored - 1) lists.stored }; index = index })
+stored_room lists (Some index) = Some (record {
+  lists = record lists { stored = take (length lists.stored - 1) lists.stored };
+  index = index;
+})
 stored_room lists None = block_room lists (first_fit lists.blocks)
 
 -- room for a slab: the newest of the slab cache, a block, or a region, of which a fixed pool gets one
@@ -103,7 +114,9 @@ pub record Spot : Type 0 where
 
 -- the object of a class that starts so many bytes into its slab, if one does
 unfoldable pub object_of : ℕ → ℕ → Option ℕ
-object_of class within = if ((16384 - within) % class_size class == 0) && nat_lt within 16384 then Some ((16384 - within) / class_size class - 1) else None
+object_of class within =
+    if ((16384 - within) % class_size class == 0) && nat_lt within 16384
+    then Some ((16384 - within) / class_size class - 1) else None
 
 -- the spot of an object of which this is known: that it was handed out, and whether it is held
 abbrev pub spot_held : OwnSlab → ℕ → Option (Option ℕ) → Option Spot
@@ -128,7 +141,10 @@ spot_at lists place =
 
 -- an object can begin at the place: it is a multiple of 8 bytes into the region
 abbrev pub is_unit : Lists → Place → Bool
-is_unit lists place = (place.pool == 0) && ((place.region == 0) && (is_some lists.region && (nat_lt place.offset 1048576 && (place.offset % 8 == 0))))
+is_unit lists place =
+    (place.pool == 0)
+    && ((place.region == 0)
+    && (is_some lists.region && (nat_lt place.offset 1048576 && (place.offset % 8 == 0))))
 
 -- what is found where no object that is held starts
 abbrev pub missing : Lists → Place → Found

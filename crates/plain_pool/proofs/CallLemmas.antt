@@ -96,14 +96,6 @@ block_is_room pool lists index bins stands cut = go (first_fit lists.blocks) ref
       record { region = stands.arrays.region; slabs = stands.arrays.slabs; bins = cut.1; stored = stands.arrays.stored; granted = stands.arrays.granted },
     )
 
--- where no block was found the bins are as before
-pub none_cut : (bins : Bins) (blocks : List Block) (o : Option Block) → IsCut bins blocks o None → (o ≡ None) × AreBins bins blocks
-none_cut bins blocks None cut = (refl, cut.1)
-none_cut bins blocks (Some block) cut = absurd (let no = cut.0 in cc)
-
-pub uncut_stands : (pool : PoolArrays) (lists : Lists) (bins : Bins) → Stands pool lists → AreBins bins lists.blocks → Stands (record pool { bins = bins }) lists
-uncut_stands pool lists bins stands fit = record { good = stands.good; arrays = record { region = stands.arrays.region; slabs = stands.arrays.slabs; bins = fit; stored = stands.arrays.stored; granted = stands.arrays.granted } }
-
 -- a room that came
 pub record Came (pool : PoolArrays) (lists : Lists) (index : ℕ) : Type 0 where
   pub room : Room
@@ -131,13 +123,6 @@ room_came pool lists index good is = go (room_in lists) refl is
           even = subst (λ n. n % 2 ≡ 0) (sym same) (hand.good.rooms_are room.index (Contains-first room.index []));
           inside = subst (λ n. n + 2 ≤ 128) (sym same) (room_within (room.index ∷ []) room.lists hand.good room.index (Contains-first room.index [])).1;
         }
-
-pub no_room_came : (pool : PoolArrays) (lists : Lists) → IsRoomOf pool lists (room_in lists) None → (room_in lists ≡ None) × Has pool lists
-no_room_came pool lists is = go (room_in lists) refl is
-  where
-    go : (o : Option Room) → room_in lists ≡ o → IsRoomOf pool lists o None → (room_in lists ≡ None) × Has pool lists
-    go None e is = (e, is.1)
-    go (Some room) e is = absurd (let no = is.0 in cc)
 
 -- no slab is in the room
 pub room_free : (pool : PoolArrays) (lists : Lists) (index : ℕ) → (came : Came pool lists index) → slab_in (index / 2) came.room.lists.slabs ≡ None

@@ -63,20 +63,7 @@ leaks_step slab objects k below = go objects k k below
         let next : suc i + 1 ≡ suc (i + 1) = omega arith in
         ap (λ m. leaks_of slab (n + 1) (drop m (x ∷ xs)) ++ leak_at slab n (number_held (slice_get xs i))) next ∙ go xs i n (omega (arith, below))
 
--- none were added yet, and all were
-pub leaks_none : (slab : OwnSlab) (objects : List (Option ℕ)) (old : List Leak) → old ≡ old ++ leaks_of slab (length objects - 0) (drop (length objects - 0) objects)
-leaks_none slab objects old = sym (append-nil old) ∙ ap (λ xs. old ++ leaks_of slab (length objects - 0) xs) (sym (past objects (length objects - 0) (omega arith)))
-  where
-    append-nil : (xs : List Leak) → xs ++ [] ≡ xs
-    append-nil [] = refl
-    append-nil (x ∷ xs) = ap (λ ys. x ∷ ys) (append-nil xs)
-
-    past : (xs : List (Option ℕ)) (n : ℕ) → length xs ≤ n → drop n xs ≡ []
-    past [] zero p = refl
-    past [] (suc n) p = refl
-    past (x ∷ xs) zero p = absurd (omega arith)
-    past (x ∷ xs) (suc n) p = past xs n (omega (arith, p))
-
+-- all were added
 pub leaks_goes_on : (slab : OwnSlab) (old before new : List Leak) (done object : ℕ) → done < length slab.objects → object ≡ length slab.objects - 1 - done → before ≡ old ++ leaks_of slab (length slab.objects - done) (drop (length slab.objects - done) slab.objects)
     → new ≡ before ++ leak_at slab object (number_held (slice_get slab.objects object)) → new ≡ old ++ leaks_of slab (length slab.objects - (done + 1)) (drop (length slab.objects - (done + 1)) slab.objects)
 leaks_goes_on slab old before new done object below at is adds =

@@ -16,7 +16,7 @@ use Rattle.std.specs.List.{IsDistinct, AllByRecursion, list_any}
 use Rattle.std.proofs.lemmas.Map.Steps.{length-le_from_distinct_below}
 use Rattle.plain_lists.proofs.Rooms.{Some-same}
 use Rattle.plain_lists.specs.Lists.{OwnSlab, begun, has_free, next_object, given, taken_back, changed, without}
-use Rattle.plain_lists.specs.Whole.{Spot, object_of, spot_held, spot_of, spot_in}
+use Rattle.plain_lists.specs.Whole.{object_of, spot_held, spot_of, spot_in}
 use Rattle.plain_lists.specs.Good.{IsHeld, times, nones}
 use Rattle.plain_lists.proofs.Gets.{times-same, times-other}
 use Rattle.plain_lists.proofs.Slabs.{given-private, given-next, next_object-private, next_object-next}
@@ -470,14 +470,6 @@ number_there marks slabs offset x long numbers below unit read =
 -- the bytes of an offset within its slab
 pub within_slab : (slabs : List OwnSlab) (offset : ℕ) (slab : OwnSlab) → slab_in (offset / 16384) slabs ≡ Some slab → offset - 8192 * slab.index ≡ offset % 16384
 within_slab slabs offset slab found = let e = (found_in slabs (offset / 16384) slab found).at_room in omega (arith, e)
-
--- where none is held there is no spot
-pub no_spot : (slabs : List OwnSlab) (room offset : ℕ) → number_of (spot_in offset (slab_in room slabs)) ≡ None → spot_in offset (slab_in room slabs) ≡ None
-no_spot slabs room offset is = go (spot_in offset (slab_in room slabs)) refl is
-  where
-    go : (o : Option Spot) → spot_in offset (slab_in room slabs) ≡ o → number_of o ≡ None → spot_in offset (slab_in room slabs) ≡ None
-    go None e f = e
-    go (Some spot) e f = absurd (let no = f in cc)
 
 -- the arrays of no slab
 pub slabs_empty : (count lists places units : ℕ) (rooms : List (Option SlabRec)) (classes : Lists) (marks : List Mark) → count ≡ 64 → lists ≡ 26 → places ≡ 64 → units ≡ 131072 → rooms ≡ replicate count None → classes ≡ empty_lists lists places → marks ≡ replicate units Blank → SlabsFit rooms classes marks []

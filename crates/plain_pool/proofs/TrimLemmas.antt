@@ -82,9 +82,6 @@ pub record Trimming (pool : PoolArrays) (lists : Lists) (count : ℕ) : Type 0 w
   pub puts : after_puts (take (25 - count) more) blocks ≡ after_puts (take 25 lists.stored) lists.blocks
   pub left : drop (25 - count) more ≡ drop 25 lists.stored
 
-pub trim_begins : (pool : PoolArrays) (lists : Lists) → Has pool lists → AreStored lists.stored lists.blocks → length lists.stored ≡ 33 → Trimming pool lists 0
-trim_begins pool lists has stored long = record { more = lists.stored; blocks = lists.blocks; has = has; stored = stored; long = omega (arith, long); puts = refl; left = refl }
-
 -- the oldest slab, while one is to be put
 pub record Oldest (more : List ℕ) : Type 0 where
   pub index : ℕ
@@ -130,13 +127,6 @@ trim_ends pool lists count trimming past long =
 
     left : trimming.more ≡ drop 25 lists.stored
     left = ap (λ n. drop n trimming.more) (sym done) ∙ trimming.left
-
--- a slab cache that is not full is left as it is
-pub not_trimmed : (lists : Lists) → length lists.stored < 33 → trimmed lists ≡ lists
-not_trimmed lists few = ap (λ (b : Bool). if b then record lists { stored = drop 25 lists.stored; blocks = after_puts (take 25 lists.stored) lists.blocks } else lists) short
-  where
-    short : nat_le 33 (length lists.stored) ≡ false
-    short = grind (arith, nat_tests, few)
 
 -- what a free begins with
 pub record Freeing (lists : Lists) (spot : Spot) (held : Held) : Type 0 where

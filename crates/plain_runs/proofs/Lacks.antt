@@ -147,8 +147,10 @@ pub none_free : (state : State) (lists : Lists) (class : ℕ) → Holds state li
 none_free state lists class holds none empty =
     let idle = idle_own state lists holds class none state holds.layout lists.region lists.granted holds.knows (λ g slab is. is) in
     record {
-      rest = λ byte own is. let clash : false ≡ true = sym (idle byte own) ∙ ap is_idle is in cc;
-      private = λ byte own is. let clash : false ≡ true = sym (idle byte own) ∙ ap is_idle is in cc;
+      given = record {
+        rest = λ byte own is. let clash : false ≡ true = sym (idle byte own) ∙ ap is_idle is in cc;
+        private = λ byte own is. let clash : false ≡ true = sym (idle byte own) ∙ ap is_idle is in cc;
+      };
       stored = no_stored state lists holds empty;
     }
 

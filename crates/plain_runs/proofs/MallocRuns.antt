@@ -103,8 +103,10 @@ begins_slab state lists size class turns room asked none ready =
     record {
       served = served_plain-small size class asked.found;
       none_yet = granted_none (moved_parts (moments_of state turns)) (quiet_none (moved_parts (moments_of state turns)) ready.opens.quiet);
-      rest = λ byte own is. let clash : false ≡ true = sym (idle byte own) ∙ ap is_idle is in cc;
-      private = λ byte own is. let clash : false ≡ true = sym (idle byte own) ∙ ap is_idle is in cc;
+      own = record {
+        rest = λ byte own is. let clash : false ≡ true = sym (idle byte own) ∙ ap is_idle is in cc;
+        private = λ byte own is. let clash : false ≡ true = sym (idle byte own) ∙ ap is_idle is in cc;
+      };
       orphans = ready.took class;
       waits = λ alone. none_waits (after_turns state turns) ready.layout (Some ready.region) room.lists.granted class ready.knows;
     }
