@@ -1,0 +1,3 @@
+mod LinesLead
+mod SlotLemmas
+mod RunLemmas
