@@ -1,0 +1,7 @@
+mod Scripted
+mod Offices
+mod Depots
+mod Machines
+mod Lines
+mod Makings
+mod Traces
