@@ -46,6 +46,24 @@ def frees(most, held):
     return "\n".join(lines) + "\n"
 
 
+def calls(most, held, threads):
+    """A trace of LINES whole calls on a growing pool, by so many threads in turn: mallocs of 1 to `most` bytes until
+    `held` objects are held, and then in turn a free of one of them and a malloc."""
+    numbers = draws(1)
+    names = []
+    lines = ["threads " + " ".join(f"T{i}" for i in range(threads)), "pool P0"]
+    for i in range(LINES):
+        thread = f"T{i % threads}"
+        if len(names) >= held:
+            k = next(numbers) % len(names)
+            names[k], names[-1] = names[-1], names[k]
+            lines.append(f"{thread} P0 free {names.pop()}")
+        else:
+            lines.append(f"{thread} P0 v{i} = malloc {1 + next(numbers) % most}")
+            names.append(f"v{i}")
+    return "\n".join(lines) + "\n"
+
+
 def peak_of(pid):
     """The peak of the memory of the process so far, in KiB. What the system tells of it later counts this script in."""
     with open(f"/proc/{pid}/status") as status:
@@ -80,6 +98,9 @@ def main():
         ("mallocs of 1 to 16 and frees", frees(16, 20000)),
         ("mallocs of 1 to 8128 and frees", frees(8128, 200)),
         ("mallocs of 1 to 8128 and frees, a full pool", frees(8128, 20000)),
+        ("machines: calls of 1 to 2000 bytes, 3000 held", calls(2000, 3000, 1)),
+        ("machines: calls of 1 to 100000 bytes, 60 held", calls(100000, 60, 1)),
+        ("machines: calls of 1 to 2000 bytes, 3000 held, 64 threads", calls(2000, 3000, 64)),
     ]
     for name, text in cases:
         seconds, used, status, report, peak = run(program, text)

@@ -150,7 +150,7 @@ replays_are_clear bytes text text' one other =
   where
     read : AllRead one.trace.lines.items (names_of one.trace.names.items) one.trace.pools.items
         ≡ AllRead other.trace.lines.items (names_of other.trace.names.items) other.trace.pools.items
-    read = traces_are_clear forms.Replay bytes _ _ one.explained.spelled other.explained.spelled
+    read = traces_are_clear forms.All bytes _ _ one.explained.spelled other.explained.spelled
 
     lines : one.trace.lines.items ≡ other.trace.lines.items
     lines = same_lines read

@@ -1,6 +1,7 @@
+pub mod PlainLemmas
+pub mod ReplyLemmas
 pub mod StatusLemmas
 pub mod NameLemmas
-pub mod Named
 pub mod Steps
 pub mod RunLemmas
 pub mod ReplayLemmas

@@ -1,5 +1,5 @@
 -- What a trace that was read and run is, and which status comes.
-use Rattle.std.proofs.Common.{◌≡◌, ℕ, ◌-◌, ◌^◌, ◌<◌, ◌≤◌, List, [], ◌++◌, length, map, Some, None, sym, ◌∙◌, ap, subst, lit<, arith}
+use Rattle.std.proofs.Common.{◌≡◌, ℕ, ◌-◌, ◌^◌, ◌<◌, ◌≤◌, true, List, [], ◌++◌, length, map, Some, None, sym, ◌∙◌, ap, subst, lit<, arith}
 use Rattle.std.specs.Prelude.{All, Ok}
 use Rattle.pool_types.specs.declared.values.Region.{Region}
 use Rattle.pool_types.specs.declared.values.Answer.{Answer}
@@ -14,7 +14,7 @@ use Rattle.trace_reader.specs.declared.acts.Forms.TheVariants as forms
 use Rattle.trace_reader.specs.declared.acts.TraceLine.{TraceLine}
 use Rattle.trace_reader.specs.declared.trace.Trace.{Trace}
 use Rattle.trace_reader.specs.Text.{ReadsTrace}
-use Rattle.trace_reader.proofs.CallerLemmas.{lines_are_numbered, replays_have_one_shape}
+use Rattle.trace_reader.proofs.CallerLemmas.{lines_are_numbered}
 use Rattle.report_text.specs.declared.entry.ReportEntry.{ReportEntry}
 use Rattle.pool_types.specs.Texts.{names_of}
 use Rattle.report_text.specs.Entries.{end_text, report_text}
@@ -30,18 +30,20 @@ use Rattle.plain_runs.proofs.CallerLemmas.{whole_calls_run, whole_calls_hold, fi
 use Rattle.trace_calls.specs.Names.{no_names, requests_from}
 use Rattle.trace_calls.specs.Entries.{line_entries, has_pool, end_entries}
 use Rattle.poolreplay.specs.Running.{no_line, judged, after_lines, run_entries, held_entries, run_report, IsServedLine}
+use Rattle.poolreplay.specs.Plain.{is_plain}
 use Rattle.poolreplay.specs.Replay.{IsReplayed}
+use Rattle.poolreplay.proofs.PlainLemmas.{plain_served}
 use Rattle.poolreplay.proofs.RunLemmas.{IsReported, all_asked, requests_same, requests_served, requests_few, mallocs_small, served_reported}
 
--- a trace that was read is one that is served
-pub trace_reported : (bytes : List ℕ) (trace : Trace) → ReadsTrace forms.Replay bytes (Ok trace) → IsReported (length trace.names.items) trace.lines.items
-trace_reported bytes trace spelled = served_reported trace.names.items trace.pools.items trace.lines.items (replays_have_one_shape bytes trace spelled)
+-- a plain trace is one that is served
+pub trace_reported : (trace : Trace) → is_plain trace ≡ true → IsReported (length trace.names.items) trace.lines.items
+trace_reported trace plain = served_reported trace.names.items trace.pools.items trace.lines.items (plain_served trace plain)
 
-pub trace_served : (bytes : List ℕ) (trace : Trace) → ReadsTrace forms.Replay bytes (Ok trace) → All IsServedLine trace.lines.items
-trace_served bytes trace spelled = (trace_reported bytes trace spelled).served
+pub trace_served : (trace : Trace) → is_plain trace ≡ true → All IsServedLine trace.lines.items
+trace_served trace plain = (trace_reported trace plain).served
 
-pub trace_short : (bytes : List ℕ) (trace : Trace) → ReadsTrace forms.Replay bytes (Ok trace) → length trace.lines.items ≤ most_lines
-trace_short bytes trace spelled = (lines_are_numbered forms.Replay bytes trace spelled).1
+pub trace_short : (bytes : List ℕ) (trace : Trace) → ReadsTrace forms.All bytes (Ok trace) → length trace.lines.items ≤ most_lines
+trace_short bytes trace spelled = (lines_are_numbered forms.All bytes trace spelled).1
 
 -- calls that are served and are mallocs alone are placed by counts
 all_placed : (requests : List Request) → All IsServed requests → (sizes : List ℕ) → requests ≡ map Malloc sizes → ArePlaced [] sizes (answers_to no_lists requests)
@@ -49,12 +51,12 @@ all_placed requests served sizes is =
     subst (λ (rs : List Request). ArePlaced [] sizes (answers_to no_lists rs)) (sym is) (mallocs_are_placed sizes (mallocs_small sizes (subst (λ (rs : List Request). All IsServed rs) is served)))
 
 -- what a trace that was read and run is
-pub replayed : (bytes text : List ℕ) (trace : Trace) → ReadsTrace forms.Replay bytes (Ok trace) → text ≡ ended_text (run_report trace) → IsReplayed bytes text
-replayed bytes text trace spelled written =
+pub replayed : (bytes text : List ℕ) (trace : Trace) → ReadsTrace forms.All bytes (Ok trace) → is_plain trace ≡ true → text ≡ ended_text (run_report trace) → IsReplayed bytes text
+replayed bytes text trace spelled plain written =
     let lines : List TraceLine = trace.lines.items in
     let threads : ℕ = length trace.names.items in
     let names : List (List ℕ) = names_of trace.names.items in
-    let parts = trace_reported bytes trace spelled in
+    let parts = trace_reported trace plain in
     let requests : List Request = all_asked lines in
     let events : List Event = events_to no_lists requests in
     let served : All IsServed requests = requests_served no_lists no_names lines parts.served in
@@ -71,6 +73,7 @@ replayed bytes text trace spelled written =
       leaks = leaks_at (lists_after no_lists requests);
       explained = record {
         spelled = spelled;
+        plain = plain;
         run = whole.run;
         calls = whole.calls;
         ends = whole.ends;

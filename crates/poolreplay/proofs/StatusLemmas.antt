@@ -1,23 +1,27 @@
 -- Which status comes.
-use Rattle.std.proofs.Common.{◌≡◌, ℕ, ◌≤◌, ◌⊎◌, inl, inr, List, [], ◌++◌, length, Some, None, refl, sym, ◌∙◌, ap, subst, arith}
-use Rattle.std.specs.Prelude.{Vec, Result, Ok, Err, IfOk, OnErr}
-use Rattle.std.specs.Global.{Global}
+use Rattle.std.proofs.Common.{◌≡◌, ℕ, ◌<◌, ◌≤◌, ◌⊎◌, inl, inr, Bool, List, [], ◌++◌, length, Some, None, refl, sym, ◌∙◌, ap, subst, arith}
+use Rattle.std.specs.Prelude.{Ok, Err}
 use Rattle.std.specs.declared.option.Option.{Option}
 use Rattle.std.proofs.lemmas.List.{append-nil, length-append}
 use Rattle.std.specs.Io.KnownBytes.{Consumes, IsAtEnd}
 use Rattle.pool_types.specs.Causes.{Rose}
+use Rattle.pool_types.specs.Limits.{most_trace_bytes}
 use Rattle.trace_reader.specs.declared.refusal.Refusal.{Refusal}
-use Rattle.trace_reader.specs.declared.refusal.TraceError.{TraceError}
-use Rattle.trace_reader.specs.declared.refusal.TraceRefused.TheVariants.{Bad}
 use Rattle.trace_reader.specs.declared.acts.Forms.TheVariants as forms
 use Rattle.trace_reader.specs.declared.trace.Trace.{Trace}
 use Rattle.trace_reader.specs.Refusals.{refusal_kind}
 use Rattle.trace_reader.specs.Text.{AllRead, FirstRefused, ReadsTrace}
 use Rattle.trace_reader.proofs.CallerLemmas.{traces_are_clear}
-use Rattle.poolreplay.specs.declared.replay.Status.{Status}
-use Rattle.poolreplay.specs.declared.replay.Status.TheVariants.{Done, BadWords, BadTrace, TooLong, ReadFault, WriteFault, NoMemory}
+use Rattle.poolreplay.specs.declared.outcome.Status.{Status}
+use Rattle.poolreplay.specs.declared.outcome.Status.TheVariants.{Done, BadWords, BadTrace, TooLong, ReadFault, StepsOut, WriteFault, NoMemory}
 use Rattle.pool_types.specs.Transfers.{IsReadWhole}
-use Rattle.poolreplay.specs.Replay.{IsDue, IsReply, IsRefused, IsWanted, ComesBut, refused_text}
+use Rattle.replay_words.specs.Commands.{IsCommand}
+use Rattle.replay_words.specs.declared.command.Command.{Command}
+use Rattle.replay_words.specs.declared.command.Command.TheVariants as command
+use Rattle.replay_words.proofs.CallerLemmas.{words_are_clear}
+use Rattle.trace_gen.specs.Generated.{generated}
+use Rattle.poolreplay.specs.Replay.{ComesBut, IsAnswered, IsCommanded, IsDue, IsDueFor, IsOut, IsReadReply, IsReadWanted, IsRefused, IsReplayReply, IsReply}
+use Rattle.poolreplay.specs.Replay.{IsReportOf, IsSumReply, IsWanted, IsWantedBy}
 
 -- what was taken is no more than the source had
 taken_few : (bytes : List ℕ) (new : Option (List ℕ)) (taken : List ℕ) → Consumes (Some bytes) new taken → length taken ≤ length bytes
@@ -33,9 +37,9 @@ read_all_of : (bytes : List ℕ) (new : Option (List ℕ)) (taken : List ℕ) �
 read_all_of bytes new taken read = all_taken bytes new taken read.consumed read.ended
 
 -- no text both spells a trace and is refused
-not_both : (bytes : List ℕ) (trace : Trace) (line kind : ℕ) → ReadsTrace forms.Replay bytes (Ok trace) → IsRefused bytes line kind → ⊥
+not_both : (bytes : List ℕ) (trace : Trace) (line kind : ℕ) → ReadsTrace forms.All bytes (Ok trace) → IsRefused bytes line kind → ⊥
 not_both bytes trace line kind spelled refused =
-    let same : AllRead trace.lines.items _ _ ≡ FirstRefused line refused.0 = traces_are_clear forms.Replay bytes _ _ spelled refused.1 in
+    let same : AllRead trace.lines.items _ _ ≡ FirstRefused line refused.0 = traces_are_clear forms.All bytes _ _ spelled refused.1 in
     cc
 
 -- and one line is refused, with one kind
@@ -47,59 +51,160 @@ refused_for is = cc
 
 one_refusal : (bytes : List ℕ) (line kind other kind' : ℕ) → IsRefused bytes line kind → IsRefused bytes other kind' → BadTrace line kind ≡ BadTrace other kind'
 one_refusal bytes line kind other kind' one two =
-    let same : FirstRefused line one.0 ≡ FirstRefused other two.0 = traces_are_clear forms.Replay bytes _ _ one.1 two.1 in
+    let same : FirstRefused line one.0 ≡ FirstRefused other two.0 = traces_are_clear forms.All bytes _ _ one.1 two.1 in
     let kinds : kind ≡ kind' = one.2 ∙ ap (λ (r : Refusal). refusal_kind r) (refused_for same) ∙ sym two.2 in
     ap (λ (l : ℕ). BadTrace l kind) (refused_line same) ∙ ap (λ (k : ℕ). BadTrace other k) kinds
 
--- the status that is due is the one that is wanted, or one that may come at any time
-due_wanted : (words : List (List ℕ)) (bytes : List ℕ) (new : Option (List ℕ)) (text : List ℕ) (status wanted : Status) → IsDue words (Some bytes) new status text → IsWanted words bytes wanted →
-    (status ≡ wanted) ⊎ (status ≡ NoMemory) ⊎ (status ≡ ReadFault)
-due_wanted words bytes new text Done Done due wants = inl refl
-due_wanted words bytes new text Done BadWords due wants = absurd (wants due.0)
-due_wanted words bytes new text Done (BadTrace line kind) due wants =
-    absurd (not_both bytes due.1.2.trace line kind (subst (λ (b : List ℕ). ReadsTrace forms.Replay b (Ok due.1.2.trace)) (read_all_of bytes new due.1.0 due.1.1) due.1.2.explained.spelled) wants.2)
-due_wanted words bytes new text Done TooLong due wants = absurd (omega (arith, wants.1, due.1.1.few, ap (λ (b : List ℕ). length b) (read_all_of bytes new due.1.0 due.1.1)))
-due_wanted words bytes new text Done ReadFault due wants = absurd wants
-due_wanted words bytes new text Done WriteFault due wants = absurd wants
-due_wanted words bytes new text Done NoMemory due wants = absurd wants
-due_wanted words bytes new text BadWords Done due wants = absurd (due.0 wants.0)
-due_wanted words bytes new text BadWords BadWords due wants = inl refl
-due_wanted words bytes new text BadWords (BadTrace line kind) due wants = absurd (due.0 wants.0)
-due_wanted words bytes new text BadWords TooLong due wants = absurd (due.0 wants.0)
-due_wanted words bytes new text BadWords ReadFault due wants = absurd wants
-due_wanted words bytes new text BadWords WriteFault due wants = absurd wants
-due_wanted words bytes new text BadWords NoMemory due wants = absurd wants
-due_wanted words bytes new text (BadTrace line kind) Done due wants =
-    absurd (not_both bytes wants.2.0 line kind wants.2.1 (subst (λ (b : List ℕ). IsRefused b line kind) (read_all_of bytes new due.1.0 due.1.1) due.1.2.0))
-due_wanted words bytes new text (BadTrace line kind) BadWords due wants = absurd (wants due.0)
-due_wanted words bytes new text (BadTrace line kind) (BadTrace other kind') due wants =
-    inl (one_refusal bytes line kind other kind' (subst (λ (b : List ℕ). IsRefused b line kind) (read_all_of bytes new due.1.0 due.1.1) due.1.2.0) wants.2)
-due_wanted words bytes new text (BadTrace line kind) TooLong due wants = absurd (omega (arith, wants.1, due.1.1.few, ap (λ (b : List ℕ). length b) (read_all_of bytes new due.1.0 due.1.1)))
-due_wanted words bytes new text (BadTrace line kind) ReadFault due wants = absurd wants
-due_wanted words bytes new text (BadTrace line kind) WriteFault due wants = absurd wants
-due_wanted words bytes new text (BadTrace line kind) NoMemory due wants = absurd wants
-due_wanted words bytes new text TooLong Done due wants = absurd (omega (arith, wants.1, due.1.2, taken_few bytes new due.1.0 due.1.1))
-due_wanted words bytes new text TooLong BadWords due wants = absurd (wants due.0)
-due_wanted words bytes new text TooLong (BadTrace line kind) due wants = absurd (omega (arith, wants.1, due.1.2, taken_few bytes new due.1.0 due.1.1))
-due_wanted words bytes new text TooLong TooLong due wants = inl refl
-due_wanted words bytes new text TooLong ReadFault due wants = absurd wants
-due_wanted words bytes new text TooLong WriteFault due wants = absurd wants
-due_wanted words bytes new text TooLong NoMemory due wants = absurd wants
-due_wanted words bytes new text ReadFault wanted due wants = inr (inr refl)
-due_wanted words bytes new text NoMemory wanted due wants = inr (inl refl)
-due_wanted words bytes new text WriteFault wanted due wants = absurd due
+-- what a reply tells of the bytes that it is for
+abbrev pub Tells : List ℕ → Status → Type 0
+Tells bytes Done = (trace : Trace) × ReadsTrace forms.All bytes (Ok trace)
+Tells bytes (StepsOut line) = (trace : Trace) × ReadsTrace forms.All bytes (Ok trace)
+Tells bytes (BadTrace line kind) = IsRefused bytes line kind
+Tells bytes NoMemory = Unit {0}
+Tells bytes BadWords = ⊥
+Tells bytes TooLong = ⊥
+Tells bytes ReadFault = ⊥
+Tells bytes WriteFault = ⊥
+
+report_tells : (moves : Bool) (bytes text : List ℕ) → IsReportOf moves bytes text → Tells bytes Done
+report_tells moves bytes text (inl listed) = (listed.1.trace, listed.1.explained.spelled)
+report_tells moves bytes text (inr run) = (run.trace, run.spelled)
+
+reply_tells : (moves : Bool) (bytes : List ℕ) (status : Status) (text : List ℕ) → IsReply moves bytes status text → Tells bytes status
+reply_tells moves bytes Done text due = report_tells moves bytes text due
+reply_tells moves bytes (StepsOut line) text due = (due.0.trace, due.0.spelled)
+reply_tells moves bytes (BadTrace line kind) text due = due.0
+reply_tells moves bytes NoMemory text due = tt
+reply_tells moves bytes BadWords text due = absurd due
+reply_tells moves bytes TooLong text due = absurd due
+reply_tells moves bytes ReadFault text due = absurd due
+reply_tells moves bytes WriteFault text due = absurd due
+
+sum_tells : (bytes : List ℕ) (status : Status) (text : List ℕ) → IsSumReply bytes status text → Tells bytes status
+sum_tells bytes Done text due = (due.trace, due.spelled)
+sum_tells bytes (StepsOut line) text due = (due.0.trace, due.0.spelled)
+sum_tells bytes (BadTrace line kind) text due = due.0
+sum_tells bytes NoMemory text due = tt
+sum_tells bytes BadWords text due = absurd due
+sum_tells bytes TooLong text due = absurd due
+sum_tells bytes ReadFault text due = absurd due
+sum_tells bytes WriteFault text due = absurd due
+
+-- it is the one that is wanted, or one that may come in its place
+abbrev pub MayCome : Status → Status → Type 0
+MayCome wanted status = (status ≡ wanted) ⊎ IsOut wanted status ⊎ (status ≡ NoMemory) ⊎ (status ≡ ReadFault)
+
+answers : (bytes : List ℕ) (status wanted : Status) → Tells bytes status → IsAnswered bytes wanted → MayCome wanted status
+answers bytes NoMemory wanted tells wants = inr (inr (inl refl))
+answers bytes Done Done tells wants = inl refl
+answers bytes Done (BadTrace line kind) tells wants = absurd (not_both bytes tells.0 line kind tells.1 wants)
+answers bytes (StepsOut line) Done tells wants = inr (inl tt)
+answers bytes (StepsOut line) (BadTrace other kind) tells wants = absurd (not_both bytes tells.0 other kind tells.1 wants)
+answers bytes (BadTrace line kind) Done tells wants = absurd (not_both bytes wants.0 line kind wants.1 tells)
+answers bytes (BadTrace line kind) (BadTrace other kind') tells wants = inl (one_refusal bytes line kind other kind' tells wants)
+answers bytes Done other tells wants = absurd wants
+answers bytes (StepsOut line) other tells wants = absurd wants
+answers bytes (BadTrace line kind) other tells wants = absurd wants
+answers bytes other wanted tells wants = absurd tells
+
+-- of bytes that were read whole
+read_answers : (moves : Bool) (bytes : List ℕ) (new : Option (List ℕ)) (text : List ℕ) (status wanted : Status)
+    → IsReadReply moves (Some bytes) new status text → IsReadWanted bytes wanted → MayCome wanted status
+read_answers moves bytes new text status wanted due wants = by_wanted wanted wants
+  where
+    tells : Tells bytes status
+    tells = subst (λ (b : List ℕ). Tells b status) (read_all_of bytes new due.bytes due.read) (reply_tells moves due.bytes status text due.reply)
+
+    few : length bytes ≤ most_trace_bytes
+    few = subst (λ (b : List ℕ). length b ≤ most_trace_bytes) (read_all_of bytes new due.bytes due.read) due.read.few
+
+    by_wanted : (w : Status) → IsReadWanted bytes w → MayCome w status
+    by_wanted TooLong many = absurd (omega (arith, many, few))
+    by_wanted Done wants = answers bytes status Done tells wants.1
+    by_wanted (BadTrace line kind) wants = answers bytes status (BadTrace line kind) tells wants.1
+    by_wanted other wants = absurd wants
+
+-- of a source's bytes
+too_long : (bytes : List ℕ) (new : Option (List ℕ)) (taken : List ℕ) (wanted : Status) → Consumes (Some bytes) new taken
+    → most_trace_bytes < length taken → IsReadWanted bytes wanted → MayCome wanted TooLong
+too_long bytes new taken TooLong consumed many wants = inl refl
+too_long bytes new taken Done consumed many wants = absurd (omega (arith, many, wants.0, taken_few bytes new taken consumed))
+too_long bytes new taken (BadTrace line kind) consumed many wants = absurd (omega (arith, many, wants.0, taken_few bytes new taken consumed))
+too_long bytes new taken other consumed many wants = absurd wants
+
+replay_answers : (moves : Bool) (bytes : List ℕ) (new : Option (List ℕ)) (text : List ℕ) (status wanted : Status)
+    → IsReplayReply moves (Some bytes) new status text → IsReadWanted bytes wanted → MayCome wanted status
+replay_answers moves bytes new text TooLong wanted due wants = too_long bytes new due.0.0 wanted due.0.1 (omega (arith, due.0.2)) wants
+replay_answers moves bytes new text ReadFault wanted due wants = inr (inr (inr refl))
+replay_answers moves bytes new text NoMemory wanted due wants = inr (inr (inl refl))
+replay_answers moves bytes new text Done wanted due wants = read_answers moves bytes new text Done wanted due wants
+replay_answers moves bytes new text (BadTrace line kind) wanted due wants = read_answers moves bytes new text (BadTrace line kind) wanted due wants
+replay_answers moves bytes new text (StepsOut line) wanted due wants = read_answers moves bytes new text (StepsOut line) wanted due wants
+replay_answers moves bytes new text BadWords wanted due wants = absurd due
+replay_answers moves bytes new text WriteFault wanted due wants = absurd due
+
+-- of a command
+command_answers : (command : Command) (bytes : List ℕ) (new : Option (List ℕ)) (text : List ℕ) (status wanted : Status)
+    → IsDueFor command (Some bytes) new status text → IsWantedBy command bytes wanted → MayCome wanted status
+command_answers (command.Replay moves) bytes new text status wanted due wants = replay_answers moves bytes new text status wanted due wants
+command_answers (command.Gen seed threads calls) bytes new text status wanted due wants =
+    answers (generated seed threads calls) status wanted (sum_tells (generated seed threads calls) status text due.1) wants
+
+-- what words want that ask for a command
+abbrev pub IsAskedFor : List (List ℕ) → List ℕ → Status → Type 0
+IsAskedFor words bytes wanted = (command : Command) × IsCommand words command × IsWantedBy command bytes wanted
+
+commanded : (words : List (List ℕ)) (bytes : List ℕ) (new : Option (List ℕ)) (text : List ℕ) (status wanted : Status)
+    → IsCommanded words (Some bytes) new status text → IsAskedFor words bytes wanted → MayCome wanted status
+commanded words bytes new text status wanted due wants =
+    command_answers due.command bytes new text status wanted due.due
+    (subst (λ (c : Command). IsWantedBy c bytes wanted) (words_are_clear words wants.0 due.command wants.1 due.asked) wants.2)
+
+asked_wanted : (words : List (List ℕ)) (bytes : List ℕ) (new : Option (List ℕ)) (text : List ℕ) (status wanted : Status)
+    → IsDue words (Some bytes) new status text → IsAskedFor words bytes wanted → MayCome wanted status
+asked_wanted words bytes new text BadWords wanted due wants = absurd (due.0 wants.0 wants.1)
+asked_wanted words bytes new text NoMemory wanted due wants = inr (inr (inl refl))
+asked_wanted words bytes new text WriteFault wanted due wants = absurd due
+asked_wanted words bytes new text Done wanted due wants = commanded words bytes new text Done wanted due wants
+asked_wanted words bytes new text (BadTrace line kind) wanted due wants = commanded words bytes new text (BadTrace line kind) wanted due wants
+asked_wanted words bytes new text (StepsOut line) wanted due wants = commanded words bytes new text (StepsOut line) wanted due wants
+asked_wanted words bytes new text TooLong wanted due wants = commanded words bytes new text TooLong wanted due wants
+asked_wanted words bytes new text ReadFault wanted due wants = commanded words bytes new text ReadFault wanted due wants
+
+-- of words that are no command
+unasked_wanted : (words : List (List ℕ)) (bytes : List ℕ) (new : Option (List ℕ)) (text : List ℕ) (status : Status)
+    → IsDue words (Some bytes) new status text → ((command : Command) → IsCommand words command → ⊥) → MayCome BadWords status
+unasked_wanted words bytes new text BadWords due none = inl refl
+unasked_wanted words bytes new text NoMemory due none = inr (inr (inl refl))
+unasked_wanted words bytes new text WriteFault due none = absurd due
+unasked_wanted words bytes new text Done due none = absurd (none due.command due.asked)
+unasked_wanted words bytes new text (BadTrace line kind) due none = absurd (none due.command due.asked)
+unasked_wanted words bytes new text (StepsOut line) due none = absurd (none due.command due.asked)
+unasked_wanted words bytes new text TooLong due none = absurd (none due.command due.asked)
+unasked_wanted words bytes new text ReadFault due none = absurd (none due.command due.asked)
+
+due_wanted : (words : List (List ℕ)) (bytes : List ℕ) (new : Option (List ℕ)) (text : List ℕ) (status wanted : Status)
+    → IsDue words (Some bytes) new status text → IsWanted words bytes wanted → MayCome wanted status
+due_wanted words bytes new text status BadWords due wants = unasked_wanted words bytes new text status due wants
+due_wanted words bytes new text status Done due wants = asked_wanted words bytes new text status Done due wants
+due_wanted words bytes new text status (BadTrace line kind) due wants = asked_wanted words bytes new text status (BadTrace line kind) due wants
+due_wanted words bytes new text status (StepsOut line) due wants = asked_wanted words bytes new text status (StepsOut line) due wants
+due_wanted words bytes new text status TooLong due wants = asked_wanted words bytes new text status TooLong due wants
+due_wanted words bytes new text status ReadFault due wants = asked_wanted words bytes new text status ReadFault due wants
+due_wanted words bytes new text status WriteFault due wants = asked_wanted words bytes new text status WriteFault due wants
+due_wanted words bytes new text status NoMemory due wants = asked_wanted words bytes new text status NoMemory due wants
 
 -- so it comes, but for want of memory and for faults
-pub comes : (words : List (List ℕ)) (old new : Option (List ℕ)) (text : List ℕ) (status : Status) (source source' sink sink' : ℕ) → IsDue words old new status text → (status ≡ ReadFault → Rose source source') →
-    (bytes : List ℕ) (wanted : Status) → old ≡ Some bytes → IsWanted words bytes wanted → ComesBut wanted status source source' sink sink'
-comes words old new text status source source' sink sink' due rose bytes wanted told wants =
-    elim (due_wanted words bytes new text status wanted (subst (λ (o : Option (List ℕ)). IsDue words o new status text) told due) wants) [
-      | inl same ↦ inl same
-      | inr rest ↦ elim rest [ inl none ↦ inr (inl none) | inr fault ↦ inr (inr (inl (fault, rose fault))) ]
-    ]
+comes_but : (wanted status : Status) (source source' sink sink' : ℕ) → (status ≡ ReadFault → Rose source source')
+    → MayCome wanted status → ComesBut wanted status source source' sink sink'
+comes_but wanted status source source' sink sink' rose (inl same) = inl same
+comes_but wanted status source source' sink sink' rose (inr (inl out)) = inr (inl out)
+comes_but wanted status source source' sink sink' rose (inr (inr (inl none))) = inr (inr (inl none))
+comes_but wanted status source source' sink sink' rose (inr (inr (inr fault))) = inr (inr (inr (inl (fault, rose fault))))
 
--- a refused line is answered with its text, or with want of memory
-pub refused_reply : {E : Type 0} (bytes : List ℕ) (error : TraceError) (said : Result (Vec ℕ Global) E) (status : Status) (text : List ℕ) → ReadsTrace forms.Replay bytes (Err (Bad error)) →
-    IfOk said (λ words. words.items ≡ refused_text error.line error.kind) → IfOk said (λ words. (status ≡ BadTrace error.line error.kind) × (text ≡ words.items)) → OnErr said ((status ≡ NoMemory) × (text ≡ [])) → IsReply bytes status text
-refused_reply bytes error (Ok words) status text read is ok err = subst (λ (s : Status). IsReply bytes s text) (sym ok.0) (read, ok.1 ∙ is)
-refused_reply bytes error (Err failed) status text read is ok err = subst (λ (s : Status). IsReply bytes s text) (sym err.0) err.1
+pub comes : (words : List (List ℕ)) (old new : Option (List ℕ)) (text : List ℕ) (status : Status) (source source' sink sink' : ℕ)
+    → IsDue words old new status text → (status ≡ ReadFault → Rose source source')
+    → (bytes : List ℕ) (wanted : Status) → old ≡ Some bytes → IsWanted words bytes wanted → ComesBut wanted status source source' sink sink'
+comes words old new text status source source' sink sink' due rose bytes wanted told wants =
+    comes_but wanted status source source' sink sink' rose
+    (due_wanted words bytes new text status wanted (subst (λ (o : Option (List ℕ)). IsDue words o new status text) told due) wants)

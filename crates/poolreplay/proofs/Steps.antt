@@ -11,7 +11,6 @@ use Rattle.trace_reader.specs.declared.acts.TraceLine.{TraceLine}
 use Rattle.report_text.specs.declared.entry.ReportEntry.{ReportEntry}
 use Rattle.report_text.specs.declared.entry.ReportEntry.TheVariants.{Answered}
 use Rattle.report_text.specs.Entries.{entry_text, entries_text}
-use Rattle.report_text.specs.Named.{IsNamed}
 use Rattle.report_text.specs.Reports.{ReportView}
 use Rattle.plain_lists.specs.Lists.{Lists}
 use Rattle.plain_lists.specs.Whole.{whole}
@@ -24,7 +23,6 @@ use Rattle.trace_calls.specs.Names.{Names, request_of, names_after}
 use Rattle.poolreplay.specs.Running.{Going, no_line, judged, after_making, after_call, call_entry, after_line, after_lines, entry_at, run_entries, StandsFor, IsAt, HasGranted, HasThread}
 use Rattle.trace_calls.specs.Kept.{names_kept}
 use Rattle.trace_calls.proofs.CallerLemmas.{request_same, after_same}
-use Rattle.poolreplay.proofs.Named.{answer_named}
 
 -- what a pool and names are after a call
 pub called : (pool next : PoolArrays) (places kept : Places) (call : TraceCall) (answer : Answer) → ((lists : Lists) → Stands pool lists → Stands next (whole lists (request_of (names_kept places) call)).lists) →
@@ -51,11 +49,6 @@ called_entry line pool places call answer answered going is = by_lists going.lis
     by_lists None none = absurd none
     by_lists (Some lists) here =
         ap (λ (a : Answer). Answered line a) (answered lists here ∙ ap (λ (r : Request). (whole lists r).answer) (request_same (names_kept places) going.names is.names call))
-
--- a call's entry is named
-pub entry_named : (threads line : ℕ) (names : Names) (call : TraceCall) (lists : Option Lists) → HasThread threads lists → IsNamed threads (call_entry line names call lists)
-entry_named threads line names call None some = tt
-entry_named threads line names call (Some lists) some = answer_named threads lists (request_of names call) some
 
 -- a pool that a line made has a thread, and granted nothing
 made_thread : (threads : ℕ) → HasThread threads (after_making (judged threads))
@@ -94,10 +87,6 @@ then_listed : (report : ReportView) (entry : Option ReportEntry) (entries : List
 then_listed report None entries = refl
 then_listed report (Some entry) entries =
     ap (λ (text : List ℕ). let r : ReportView = record { names = report.names; text = text } in r) (append_assoc report.text (entry_text report.names entry) (entries_text report.names entries))
-
-pub entry_names : (report : ReportView) (entry : Option ReportEntry) → (with_entry report entry).names ≡ report.names
-entry_names report None = refl
-entry_names report (Some entry) = refl
 
 -- What is done of these lines, so many, and what is left make the whole.
 pub record IsUnderWay (threads done : ℕ) (pool : Option PoolArrays) (places : Places) (report start : ReportView) (lines left : List TraceLine) : Type 0 where

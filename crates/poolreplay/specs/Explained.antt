@@ -1,6 +1,6 @@
 -- What it is for a report to be explained by a run of the partition machine. Nothing is named here of how a pool is
 -- built.
-use Rattle.std.specs.Prelude.{◌≡◌, ℕ, List, [], ◌++◌, length, Contains, Some, None, Ok}
+use Rattle.std.specs.Prelude.{◌≡◌, ℕ, List, [], ◌++◌, true, length, Contains, Some, None, Ok}
 use Rattle.pool_types.specs.declared.policy.RegionRec.{RegionRec}
 use Rattle.pool_types.specs.declared.values.Leak.{Leak}
 use Rattle.pool_types.specs.Limits.{plain_region_bytes}
@@ -15,6 +15,7 @@ use Rattle.trace_calls.specs.Entries.{line_entries, has_pool, end_entries}
 use Rattle.trace_calls.specs.Names.{no_names, requests_from}
 use Rattle.trace_calls.specs.Pools.{Judged, limits_of}
 use Rattle.report_text.specs.Entries.{report_text}
+use Rattle.poolreplay.specs.Plain.{is_plain}
 use Rattle.machine.specs.States.{fixed_terms}
 use Rattle.machine.specs.Callback.{raw_calls, HasAnswered, no_script}
 use Rattle.machine.specs.Events.{Event}
@@ -24,8 +25,9 @@ use Rattle.machine.specs.Runs.{IsRun, AreCalls, EndAnswered, requests_in, answer
 -- The text is the report of a run of the partition machine that does what the trace asks. So each move is lawful, each
 -- object suits its request and was no object's when it was granted, and null comes only for a stated cause.
 pub record Explained (bytes text : List ℕ) (trace : Trace) (events : List Event) (leaks : List Leak) : Type 0 where
-  -- the bytes spell the trace
-  pub spelled : ReadsTrace forms.Replay bytes (Ok trace)
+  -- the bytes spell the trace, and it is plain
+  pub spelled : ReadsTrace forms.All bytes (Ok trace)
+  pub plain : is_plain trace ≡ true
   -- the events are a run, from no region on, of calls alone, and nothing comes after the last answer
   pub run : IsRun fixed_terms events
   pub calls : AreCalls events

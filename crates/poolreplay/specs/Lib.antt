@@ -1,3 +1,5 @@
+pub mod Plain
+pub mod Summaries
 pub mod Explained
 pub mod Settled
 pub mod Replay

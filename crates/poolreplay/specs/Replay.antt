@@ -1,5 +1,6 @@
 -- What a replay answers and writes.
-use Rattle.std.specs.Prelude.{◌≡◌, ℕ, ◌+◌, ◌<◌, ◌≤◌, ◌⊎◌, List, [], ◌∷◌, ◌++◌, codes, length, Some, Ok, Err}
+use Rattle.std.specs.Prelude.{◌≡◌, ℕ, ◌+◌, ◌<◌, ◌≤◌, ◌⊎◌, Bool, true, false, not, ◌&&◌, List, [], ◌++◌, codes, length, Some}
+use Rattle.std.specs.Prelude.{None, Ok, Err}
 use Rattle.std.specs.Fmt.{decimal}
 use Rattle.std.specs.declared.option.Option.{Option}
 use Rattle.std.specs.Io.KnownBytes.{Appends, Keeps}
@@ -11,22 +12,27 @@ use Rattle.trace_reader.specs.declared.acts.Forms.TheVariants as forms
 use Rattle.trace_reader.specs.declared.refusal.TraceRefused.TheVariants.{Bad}
 use Rattle.trace_reader.specs.declared.trace.Trace.{Trace}
 use Rattle.trace_reader.specs.Text.{ReadsTrace}
-use Rattle.report_text.specs.Reports.{ended_text}
+use Rattle.report_text.specs.Reports.{ReportView, ended_text}
+use Rattle.replay_words.specs.Commands.{IsCommand, ReadsCommand}
+use Rattle.replay_words.specs.declared.command.Command.{Command}
+use Rattle.replay_words.specs.declared.command.Command.TheVariants as command
+use Rattle.trace_gen.specs.Generated.{generated}
+use Rattle.trace_runs.specs.Runs.{Runs, Sums}
+use Rattle.trace_runs.specs.declared.runs.RunError.TheVariants as RunError
+use Rattle.trace_runs.specs.declared.ends.Summary.{Summary}
 use Rattle.machine.specs.Events.{Event}
-use Rattle.poolreplay.specs.declared.replay.Output.{Output}
-use Rattle.poolreplay.specs.declared.replay.Output.TheVariants as output
-use Rattle.poolreplay.specs.declared.replay.Status.{Status}
-use Rattle.poolreplay.specs.declared.replay.Status.TheVariants.{Done, BadWords, BadTrace, TooLong, ReadFault}
-use Rattle.poolreplay.specs.declared.replay.Status.TheVariants.{WriteFault, NoMemory}
+use Rattle.poolreplay.specs.declared.outcome.Output.{Output}
+use Rattle.poolreplay.specs.declared.outcome.Output.TheVariants as output
+use Rattle.poolreplay.specs.declared.outcome.Status.{Status}
+use Rattle.poolreplay.specs.declared.outcome.Status.TheVariants.{Done, BadWords, BadTrace, TooLong, ReadFault}
+use Rattle.poolreplay.specs.declared.outcome.Status.TheVariants.{StepsOut, WriteFault, NoMemory}
 use Rattle.poolreplay.specs.Explained.{Explained}
+use Rattle.poolreplay.specs.Plain.{is_plain}
 use Rattle.poolreplay.specs.Settled.{Settled}
+use Rattle.poolreplay.specs.Summaries.{summary_text}
 
--- the one command line
-abbrev pub IsCommand : List (List ℕ) → Type 0
-IsCommand words = words ≡ codes "replay" ∷ []
-
--- A report: it tells of one trace, one run and the objects that are held at its end. The run explains the report, and
--- the bytes settle the run; so they settle the text.
+-- A report of a plain trace: it tells of one trace, one run and the objects that are held at its end. The run explains
+-- the report, and the bytes settle the run; so they settle the text.
 pub record IsReplayed (bytes text : List ℕ) : Type 0 where
   pub trace : Trace
   pub events : List Event
@@ -34,7 +40,45 @@ pub record IsReplayed (bytes text : List ℕ) : Type 0 where
   pub explained : Explained bytes text trace events leaks
   pub settled : Settled events leaks
 
--- the bytes settle the text
+-- whole calls over lists serve the trace: it is plain, and no moves are asked
+abbrev pub is_listed : Bool → Trace → Bool
+is_listed moves trace = not moves && is_plain trace
+
+-- A report of any other trace: it is that of the trace's run, line by line, on the machines of its pools.
+pub record IsRunOf (moves : Bool) (bytes text : List ℕ) : Type 0 where
+  pub trace : Trace
+  pub spelled : ReadsTrace forms.All bytes (Ok trace)
+  pub other : is_listed moves trace ≡ false
+  pub report : ReportView
+  pub runs : Runs moves trace (Ok report)
+  pub written : text ≡ ended_text report
+
+-- a report, with what each step moves or without it
+abbrev pub IsReportOf : Bool → List ℕ → List ℕ → Type 0
+IsReportOf moves bytes text = ((moves ≡ false) × IsReplayed bytes text) ⊎ IsRunOf moves bytes text
+
+-- the run made, in this line, the most turns that a line makes, and none ended it
+pub record IsOutOfTurns (moves : Bool) (bytes : List ℕ) (line : ℕ) : Type 0 where
+  pub trace : Trace
+  pub spelled : ReadsTrace forms.All bytes (Ok trace)
+  pub other : is_listed moves trace ≡ false
+  pub runs : Runs moves trace (Err (RunError.StepsOut line))
+
+-- a summary: it is that of the trace's run
+pub record IsSummaryOf (bytes text : List ℕ) : Type 0 where
+  pub trace : Trace
+  pub spelled : ReadsTrace forms.All bytes (Ok trace)
+  pub summary : Summary
+  pub sums : Sums trace (Ok summary)
+  pub written : text ≡ summary_text summary
+
+-- the run that was to be summed made, in this line, the most turns that a line makes
+pub record IsUnsummed (bytes : List ℕ) (line : ℕ) : Type 0 where
+  pub trace : Trace
+  pub spelled : ReadsTrace forms.All bytes (Ok trace)
+  pub sums : Sums trace (Err (RunError.StepsOut line))
+
+-- the bytes of a plain trace settle the text
 abbrev pub ReplaysAreClear : Type 0
 ReplaysAreClear = (bytes one other : List ℕ) → IsReplayed bytes one → IsReplayed bytes other → one ≡ other
 
@@ -42,32 +86,80 @@ ReplaysAreClear = (bytes one other : List ℕ) → IsReplayed bytes one → IsRe
 abbrev pub refused_text : ℕ → ℕ → List ℕ
 refused_text line kind = codes "bad trace line " ++ (decimal line ++ (codes " kind " ++ (decimal kind ++ codes "\n")))
 
+-- the text of a line that is out of turns
+abbrev pub steps_out_text : ℕ → List ℕ
+steps_out_text line = codes "steps out line " ++ (decimal line ++ codes "\n")
+
 -- the bytes spell no trace: this is the first line that is refused, and the first kind of what is wrong with it
 abbrev pub IsRefused : List ℕ → ℕ → ℕ → Type 0
-IsRefused bytes line kind = ReadsTrace forms.Replay bytes (Err (Bad (record { line = line; kind = kind })))
+IsRefused bytes line kind = ReadsTrace forms.All bytes (Err (Bad (record { line = line; kind = kind })))
+
+-- this status comes with this text, or memory ran out
+abbrev pub Says : Status → List ℕ → Status → List ℕ → Type 0
+Says wanted words status text = ((status ≡ wanted) × (text ≡ words)) ⊎ ((status ≡ NoMemory) × (text ≡ []))
 
 -- the text that is due with a status, for bytes that were read whole
-abbrev pub IsReply : List ℕ → Status → List ℕ → Type 0
-IsReply bytes Done text = IsReplayed bytes text
-IsReply bytes (BadTrace line kind) text = IsRefused bytes line kind × (text ≡ refused_text line kind)
-IsReply bytes NoMemory text = text ≡ []
-IsReply bytes BadWords text = ⊥
-IsReply bytes TooLong text = ⊥
-IsReply bytes ReadFault text = ⊥
-IsReply bytes WriteFault text = ⊥
+abbrev pub IsReply : Bool → List ℕ → Status → List ℕ → Type 0
+IsReply moves bytes Done text = IsReportOf moves bytes text
+IsReply moves bytes (BadTrace line kind) text = IsRefused bytes line kind × (text ≡ refused_text line kind)
+IsReply moves bytes (StepsOut line) text = IsOutOfTurns moves bytes line × (text ≡ steps_out_text line)
+IsReply moves bytes NoMemory text = text ≡ []
+IsReply moves bytes BadWords text = ⊥
+IsReply moves bytes TooLong text = ⊥
+IsReply moves bytes ReadFault text = ⊥
+IsReply moves bytes WriteFault text = ⊥
+
+-- and for bytes that are to be summed
+abbrev pub IsSumReply : List ℕ → Status → List ℕ → Type 0
+IsSumReply bytes Done text = IsSummaryOf bytes text
+IsSumReply bytes (BadTrace line kind) text = IsRefused bytes line kind × (text ≡ refused_text line kind)
+IsSumReply bytes (StepsOut line) text = IsUnsummed bytes line × (text ≡ steps_out_text line)
+IsSumReply bytes NoMemory text = text ≡ []
+IsSumReply bytes BadWords text = ⊥
+IsSumReply bytes TooLong text = ⊥
+IsSumReply bytes ReadFault text = ⊥
+IsSumReply bytes WriteFault text = ⊥
+
+-- a source's bytes were read whole, and this is due for them
+pub record IsReadReply (moves : Bool) (old new : Option (List ℕ)) (status : Status) (text : List ℕ) : Type 0 where
+  pub bytes : List ℕ
+  pub read : IsReadWhole old new bytes
+  pub reply : IsReply moves bytes status text
+
+-- the text that is due with a status, for a trace that is to be read from a source
+abbrev pub IsReplayReply : Bool → Option (List ℕ) → Option (List ℕ) → Status → List ℕ → Type 0
+IsReplayReply moves old new TooLong text = IsReadPast old new (most_trace_bytes + 1) × (text ≡ [])
+IsReplayReply moves old new ReadFault text = text ≡ []
+IsReplayReply moves old new NoMemory text = text ≡ []
+IsReplayReply moves old new Done text = IsReadReply moves old new Done text
+IsReplayReply moves old new (BadTrace line kind) text = IsReadReply moves old new (BadTrace line kind) text
+IsReplayReply moves old new (StepsOut line) text = IsReadReply moves old new (StepsOut line) text
+IsReplayReply moves old new BadWords text = ⊥
+IsReplayReply moves old new WriteFault text = ⊥
+
+-- the text that is due with a status, for a command and what was read; a generated trace is not read
+abbrev pub IsDueFor : Command → Option (List ℕ) → Option (List ℕ) → Status → List ℕ → Type 0
+IsDueFor (command.Replay moves) old new status text = IsReplayReply moves old new status text
+IsDueFor (command.Gen seed threads calls) old new status text =
+    Keeps old new × IsSumReply (generated seed threads calls) status text
+
+-- the words ask for a command, for which this is due
+pub record IsCommanded (words : List (List ℕ)) (old new : Option (List ℕ)) (status : Status) (text : List ℕ) : Type 0 where
+  pub command : Command
+  pub asked : IsCommand words command
+  pub due : IsDueFor command old new status text
 
 -- The text that is due with a status, for these words and what was read. Nothing is read for words that are no command
 -- line, and want of memory is due at any time.
 abbrev pub IsDue : List (List ℕ) → Option (List ℕ) → Option (List ℕ) → Status → List ℕ → Type 0
-IsDue words old new BadWords text = (IsCommand words → ⊥) × Keeps old new × (text ≡ codes "bad words\n")
-IsDue words old new Done text = IsCommand words
-    × ((bytes : List ℕ) × IsReadWhole old new bytes × IsReply bytes Done text)
-IsDue words old new (BadTrace line kind) text = IsCommand words
-    × ((bytes : List ℕ) × IsReadWhole old new bytes × IsReply bytes (BadTrace line kind) text)
-IsDue words old new TooLong text = IsCommand words × IsReadPast old new (most_trace_bytes + 1) × (text ≡ [])
-IsDue words old new ReadFault text = IsCommand words × (text ≡ [])
-IsDue words old new WriteFault text = ⊥
+IsDue words old new BadWords text = ReadsCommand words None × Keeps old new × (text ≡ codes "bad words\n")
 IsDue words old new NoMemory text = text ≡ []
+IsDue words old new WriteFault text = ⊥
+IsDue words old new Done text = IsCommanded words old new Done text
+IsDue words old new (BadTrace line kind) text = IsCommanded words old new (BadTrace line kind) text
+IsDue words old new (StepsOut line) text = IsCommanded words old new (StepsOut line) text
+IsDue words old new TooLong text = IsCommanded words old new TooLong text
+IsDue words old new ReadFault text = IsCommanded words old new ReadFault text
 
 -- the status that the process ends with
 abbrev pub status_number : Status → ℕ
@@ -77,6 +169,7 @@ status_number (BadTrace line kind) = 3
 status_number TooLong = 4
 status_number ReadFault = 5
 status_number WriteFault = 6
+status_number (StepsOut line) = 7
 status_number NoMemory = 8
 
 -- the text that is to be written
@@ -84,23 +177,39 @@ abbrev pub output_text : Output → List ℕ
 output_text (output.Words text) = text.items
 output_text (output.Whole report) = ended_text report
 
+-- the status that bytes want, whether they are to be reported or summed
+abbrev pub IsAnswered : List ℕ → Status → Type 0
+IsAnswered bytes Done = (trace : Trace) × ReadsTrace forms.All bytes (Ok trace)
+IsAnswered bytes (BadTrace line kind) = IsRefused bytes line kind
+IsAnswered bytes other = ⊥
+
+-- the status that the source's bytes want
+abbrev pub IsReadWanted : List ℕ → Status → Type 0
+IsReadWanted bytes TooLong = most_trace_bytes < length bytes
+IsReadWanted bytes Done = (length bytes ≤ most_trace_bytes) × IsAnswered bytes Done
+IsReadWanted bytes (BadTrace line kind) = (length bytes ≤ most_trace_bytes) × IsAnswered bytes (BadTrace line kind)
+IsReadWanted bytes other = ⊥
+
+-- the status that a command and the source's bytes want
+abbrev pub IsWantedBy : Command → List ℕ → Status → Type 0
+IsWantedBy (command.Replay moves) bytes status = IsReadWanted bytes status
+IsWantedBy (command.Gen seed threads calls) bytes status = IsAnswered (generated seed threads calls) status
+
 -- The status that the words and the source's bytes want.
 abbrev pub IsWanted : List (List ℕ) → List ℕ → Status → Type 0
-IsWanted words bytes Done = IsCommand words × (length bytes ≤ most_trace_bytes)
-    × ((trace : Trace) × ReadsTrace forms.Replay bytes (Ok trace))
-IsWanted words bytes BadWords = IsCommand words → ⊥
-IsWanted words bytes (BadTrace line kind) = IsCommand words × (length bytes ≤ most_trace_bytes)
-    × IsRefused bytes line kind
-IsWanted words bytes TooLong = IsCommand words × (most_trace_bytes < length bytes)
-IsWanted words bytes ReadFault = ⊥
-IsWanted words bytes WriteFault = ⊥
-IsWanted words bytes NoMemory = ⊥
+IsWanted words bytes BadWords = ReadsCommand words None
+IsWanted words bytes status = (command : Command) × IsCommand words command × IsWantedBy command bytes status
 
--- The status comes that is wanted, but for want of memory, and for a fault that is counted. The counts are those of
--- the source before and after, and those of the sink.
+-- where a report or a summary is wanted, a line may be out of turns
+abbrev pub IsOut : Status → Status → Type 0
+IsOut Done (StepsOut line) = Unit {0}
+IsOut wanted status = ⊥
+
+-- The status comes that is wanted, or a line is out of turns, but for want of memory, and for a fault that is counted. The
+-- counts are those of the source before and after, and those of the sink.
 abbrev pub ComesBut : Status → Status → ℕ → ℕ → ℕ → ℕ → Type 0
 ComesBut wanted status source source' sink sink' =
-    (status ≡ wanted) ⊎ (status ≡ NoMemory) ⊎ ((status ≡ ReadFault) × Rose source source')
+    (status ≡ wanted) ⊎ IsOut wanted status ⊎ (status ≡ NoMemory) ⊎ ((status ≡ ReadFault) × Rose source source')
     ⊎ ((status ≡ WriteFault) × Rose sink sink')
 
 -- the text that is due with the status was written, behind what the sink had

@@ -63,7 +63,6 @@ fn call_pool(pool: &mut Pool, places: &mut Places, call: &TraceCall) -> Result<A
 
 /// Adds what the pool holds at the end.
 fn add_held(alloc: Global, report: &mut Report, pool: &Pool) -> Result<(), NoMemory>
-    requires named { 0 < length report.old.names }
     requires stands { (lists : Lists) × Stands pool.now lists }
     ensures { OnOk result ((lists : Lists) → Stands pool.now lists →
         report.new ≡ with_entries report.old (held_entries (Some lists))) }
@@ -78,7 +77,6 @@ impl Run {
     /// Makes the pool, where that is allowed, and reports how its making was judged.
     fn make(&mut self, alloc: Global, threads: u8, line: u32) -> Result<(), NoMemory>
         requires few { threads ≤ most_seats }
-        requires named { length self.old.report.names ≡ threads }
         ensures going { OnOk result ((going : Going) → IsAt self.old.pool self.old.places going →
             IsAt self.new.pool self.new.places
             (record { lists = after_making (judged threads); names = going.names })) }
@@ -117,7 +115,6 @@ impl Run {
     fn step(&mut self, alloc: Global, threads: u8, line: &TraceLine) -> Result<(), NoMemory>
         requires few { threads ≤ most_seats }
         requires served { IsServedLine line.now }
-        requires named { length self.old.report.names ≡ threads }
         requires going { (going : Going) × IsAt self.old.pool self.old.places going
             × HasGranted (2 ^ 55 - 2) going.lists × HasThread threads going.lists }
         ensures going { OnOk result ((going : Going) → IsAt self.old.pool self.old.places going →
@@ -159,7 +156,6 @@ fn run_lines(alloc: Global, run: &mut Run, threads: u8, lines: &[TraceLine]) -> 
     requires few { threads ≤ most_seats }
     requires served { All IsServedLine lines.now }
     requires short { length lines.now ≤ most_lines }
-    requires named { length run.old.report.names ≡ threads }
     requires fresh { IsAt run.old.pool run.old.places no_line }
     ensures going { OnOk result (IsAt run.new.pool run.new.places (after_lines threads no_line lines.now)) }
     ensures report { OnOk result (run.new.report

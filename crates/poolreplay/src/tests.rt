@@ -4,7 +4,8 @@ ghost use Rattle.std.specs.Prelude.{◌≤◌};
 
 mod frees;
 
-use crate::replay::{Status, replay};
+use crate::outcome::Status;
+use crate::replay::replay;
 use pool_types::{MemorySink, MemorySource};
 use std::alloc::{AllocError, Global};
 use std::io::{self, Write};
@@ -199,21 +200,16 @@ fn see_refused(
 }
 
 #[test]
-fn the_first_line_that_is_not_served_is_refused(rt: HostRuntime) -> Result<(), Fail> {
+fn the_first_line_that_is_wrong_is_refused(rt: HostRuntime) -> Result<(), Fail> {
     let alloc = rt.alloc();
     let cases = [
         ("threads a\n", 1, 1),
-        ("threads A B\n", 1, 12),
-        ("threads A\npool P0\n", 2, 12),
         ("threads A\npool P1 fixed\n", 2, 7),
         ("threads A\npool P0 fixed\nB P0 x = malloc 1\n", 3, 4),
         ("threads A\npool P0 fixed\nA P0 null = malloc 1\n", 3, 1),
-        ("threads A\npool P0 fixed\nA P0 x = malloc 8129\n", 3, 12),
         ("threads A\npool P0 fixed\nA P0 x = malloc 01\n", 3, 2),
         ("threads A\npool P0 fixed\nA P0 free x\n", 3, 5),
-        ("threads A\npool P0 fixed\nA P0 x = realloc null 8\n", 3, 12),
-        ("threads A\npool P0 fixed\nA P0 exit x\n", 3, 12),
-        ("threads A\npool P0 fixed\npool P1\n", 3, 12),
+        ("threads A\npool P0 fixed\nA P0 exit x\n", 3, 1),
         ("threads A\npool P0 fixed\nA P0 x = malloc 100", 3, 11),
         ("# a comment", 1, 11),
     ];
@@ -236,7 +232,6 @@ fn each_kind_of_refusal_is_reported(rt: HostRuntime) -> Result<(), Fail> {
         ("pool P2\n", 7),
         ("threads C\n", 8),
         ("A P0 y = malloc 8", 11),
-        ("A P0 y = malloc 8129\n", 12),
     ];
     for (line, kind) in cases {
         let trace = format!(in alloc; "threads A\npool P0 fixed\nA P0 x = malloc 8\n{line}")?;

@@ -1,7 +1,7 @@
 //! The rows of frees, and of questions of places.
 
 use super::{mallocs, run, sink_of, source_of};
-use crate::replay::Status;
+use crate::outcome::Status;
 use pool_types::MemorySource;
 use std::alloc::Global;
 use std::io::{self, Write};

@@ -1,9 +1,8 @@
-use Rattle.std.proofs.Common.{◌≡◌, List, ◌∷◌, ◌+◌, drop, get_or, ap, ◌∙◌, subst}
+use Rattle.std.proofs.Common.{◌≡◌, List, ◌∷◌, ◌+◌, drop, get_or, subst}
 use Rattle.std.proofs.lemmas.List.{drop_more}
 use Rattle.trace_reader.specs.declared.acts.Act.TheVariants as act
 use Rattle.trace_reader.specs.declared.acts.TraceLine.{TraceLine}
-use Rattle.report_text.specs.Reports.{ReportView}
-use Rattle.poolreplay.proofs.Steps.{IsUnderWay, entry_names, stepped}
+use Rattle.poolreplay.proofs.Steps.{IsUnderWay, stepped}
 use Rattle.poolreplay.proofs.run.run_lines.Goals as goal
 
 pub loop-line-preserved : goal.loop-line-preserved
@@ -15,7 +14,6 @@ loop-line-preserved c =
     let left : drop c.loop-line.line-index c.args.lines.now ≡ line ∷ drop (c.loop-line.line-index + 1) c.args.lines.now =
     drop_more c.args.lines.now c.loop-line.line-index none c.loop-line-test.true in
     record {
-      names = ap (λ (report : ReportView). report.names) (c.in_ok-step.ensures.report way.going way.here) ∙ entry_names run.report _ ∙ c.loop-line.invariant.names;
       way = stepped c.args.threads c.loop-line.line-index run.pool _ run.places _ run.report _ c.args.run.now.report c.args.lines.now line (drop (c.loop-line.line-index + 1) c.args.lines.now)
           c.in_ok-step.ensures.going c.in_ok-step.ensures.report
           (subst (λ (ls : List TraceLine). IsUnderWay c.args.threads c.loop-line.line-index run.pool run.places run.report c.args.run.now.report c.args.lines.now ls) left way);

@@ -1,0 +1,98 @@
+-- Which texts are due.
+use Rattle.std.proofs.Common.{◌≡◌, ℕ, ◌⊎◌, inl, inr, Bool, true, false, List, [], ◌++◌, Some, None, refl, sym, ◌∙◌, ap, subst}
+use Rattle.std.specs.Prelude.{Vec, Result, Ok, Err, IfOk, OnErr}
+use Rattle.std.specs.Global.{Global}
+use Rattle.std.specs.declared.option.Option.{Option}
+use Rattle.report_text.specs.Reports.{ReportView, ended_text}
+use Rattle.trace_reader.specs.declared.acts.Forms.TheVariants as forms
+use Rattle.trace_reader.specs.declared.refusal.TraceError.{TraceError}
+use Rattle.trace_reader.specs.declared.refusal.TraceRefused.TheVariants.{Bad}
+use Rattle.trace_reader.specs.declared.trace.Trace.{Trace}
+use Rattle.trace_reader.specs.Text.{ReadsTrace}
+use Rattle.trace_runs.specs.Runs.{Runs, Sums}
+use Rattle.trace_runs.specs.declared.runs.RunError.TheVariants as RunError
+use Rattle.trace_runs.specs.declared.ends.Summary.{Summary}
+use Rattle.replay_words.specs.Commands.{IsCommand}
+use Rattle.replay_words.specs.declared.command.Command.{Command}
+use Rattle.replay_words.specs.declared.command.Command.TheVariants as command
+use Rattle.poolreplay.specs.declared.outcome.Status.{Status}
+use Rattle.poolreplay.specs.declared.outcome.Status.TheVariants.{Done, BadWords, BadTrace, TooLong, ReadFault, StepsOut, WriteFault, NoMemory}
+use Rattle.poolreplay.specs.Replay.{IsDue, IsDueFor, IsReply, IsSumReply, Says, is_listed, refused_text, steps_out_text}
+use Rattle.poolreplay.specs.Summaries.{summary_text}
+
+-- a text that was made is said, or memory ran out
+pub said_is : {E : Type 0} (said : Result (Vec ℕ Global) E) (want : List ℕ) (wanted status : Status) (text : List ℕ)
+    → IfOk said (λ words. words.items ≡ want) → IfOk said (λ words. Says wanted words.items status text)
+    → OnErr said ((status ≡ NoMemory) × (text ≡ [])) → Says wanted want status text
+said_is (Ok words) want wanted status text is ok err = subst (λ (w : List ℕ). Says wanted w status text) is ok
+said_is (Err failed) want wanted status text is ok err = inr err
+
+-- by what it says, a reply is due
+reply_by : (moves : Bool) (bytes : List ℕ) (wanted : Status) (words : List ℕ) (status : Status) (text : List ℕ)
+    → IsReply moves bytes wanted words → Says wanted words status text → IsReply moves bytes status text
+reply_by moves bytes wanted words status text due (inl says) =
+    subst (λ (s : Status). IsReply moves bytes s text) (sym says.0) (subst (λ (t : List ℕ). IsReply moves bytes wanted t) (sym says.1) due)
+reply_by moves bytes wanted words status text due (inr none) = subst (λ (s : Status). IsReply moves bytes s text) (sym none.0) none.1
+
+sum_by : (bytes : List ℕ) (wanted : Status) (words : List ℕ) (status : Status) (text : List ℕ)
+    → IsSumReply bytes wanted words → Says wanted words status text → IsSumReply bytes status text
+sum_by bytes wanted words status text due (inl says) =
+    subst (λ (s : Status). IsSumReply bytes s text) (sym says.0) (subst (λ (t : List ℕ). IsSumReply bytes wanted t) (sym says.1) due)
+sum_by bytes wanted words status text due (inr none) = subst (λ (s : Status). IsSumReply bytes s text) (sym none.0) none.1
+
+-- a refused line
+pub refused_reply : (moves : Bool) (bytes : List ℕ) (error : TraceError) (status : Status) (text : List ℕ)
+    → ReadsTrace forms.All bytes (Err (Bad error)) → Says (BadTrace error.line error.kind) (refused_text error.line error.kind) status text
+    → IsReply moves bytes status text
+refused_reply moves bytes error status text read says =
+    reply_by moves bytes (BadTrace error.line error.kind) (refused_text error.line error.kind) status text (read, refl) says
+
+pub refused_sum : (bytes : List ℕ) (error : TraceError) (status : Status) (text : List ℕ)
+    → ReadsTrace forms.All bytes (Err (Bad error)) → Says (BadTrace error.line error.kind) (refused_text error.line error.kind) status text
+    → IsSumReply bytes status text
+refused_sum bytes error status text read says =
+    sum_by bytes (BadTrace error.line error.kind) (refused_text error.line error.kind) status text (read, refl) says
+
+-- a run
+pub run_reported : (moves : Bool) (bytes : List ℕ) (trace : Trace) (report : ReportView) (text : List ℕ)
+    → ReadsTrace forms.All bytes (Ok trace) → is_listed moves trace ≡ false → Runs moves trace (Ok report) → text ≡ ended_text report
+    → IsReply moves bytes Done text
+run_reported moves bytes trace report text spelled other runs written =
+    inr (record { trace = trace; spelled = spelled; other = other; report = report; runs = runs; written = written })
+
+pub run_out : (moves : Bool) (bytes : List ℕ) (trace : Trace) (line : ℕ) (status : Status) (text : List ℕ)
+    → ReadsTrace forms.All bytes (Ok trace) → is_listed moves trace ≡ false → Runs moves trace (Err (RunError.StepsOut line))
+    → Says (StepsOut line) (steps_out_text line) status text → IsReply moves bytes status text
+run_out moves bytes trace line status text spelled other runs says =
+    reply_by moves bytes (StepsOut line) (steps_out_text line) status text
+    (record { trace = trace; spelled = spelled; other = other; runs = runs }, refl) says
+
+-- a summary
+pub run_summed : (bytes : List ℕ) (trace : Trace) (summary : Summary) (status : Status) (text : List ℕ)
+    → ReadsTrace forms.All bytes (Ok trace) → Sums trace (Ok summary) → Says Done (summary_text summary) status text
+    → IsSumReply bytes status text
+run_summed bytes trace summary status text spelled sums says =
+    sum_by bytes Done (summary_text summary) status text
+    (record { trace = trace; spelled = spelled; summary = summary; sums = sums; written = refl }) says
+
+pub run_unsummed : (bytes : List ℕ) (trace : Trace) (line : ℕ) (status : Status) (text : List ℕ)
+    → ReadsTrace forms.All bytes (Ok trace) → Sums trace (Err (RunError.StepsOut line))
+    → Says (StepsOut line) (steps_out_text line) status text → IsSumReply bytes status text
+run_unsummed bytes trace line status text spelled sums says =
+    sum_by bytes (StepsOut line) (steps_out_text line) status text
+    (record { trace = trace; spelled = spelled; sums = sums }, refl) says
+
+-- what is due for a command is due for its words
+pub due_for : (words : List (List ℕ)) (old new : Option (List ℕ)) (status : Status) (text : List ℕ) (command : Command)
+    → IsCommand words command → IsDueFor command old new status text → IsDue words old new status text
+due_for words old new BadWords text (command.Replay moves) asked due = absurd due
+due_for words old new BadWords text (command.Gen seed threads calls) asked due = absurd due.1
+due_for words old new WriteFault text (command.Replay moves) asked due = absurd due
+due_for words old new WriteFault text (command.Gen seed threads calls) asked due = absurd due.1
+due_for words old new NoMemory text (command.Replay moves) asked due = due
+due_for words old new NoMemory text (command.Gen seed threads calls) asked due = due.1
+due_for words old new Done text command asked due = record { command = command; asked = asked; due = due }
+due_for words old new (BadTrace line kind) text command asked due = record { command = command; asked = asked; due = due }
+due_for words old new (StepsOut line) text command asked due = record { command = command; asked = asked; due = due }
+due_for words old new TooLong text command asked due = record { command = command; asked = asked; due = due }
+due_for words old new ReadFault text command asked due = record { command = command; asked = asked; due = due }
