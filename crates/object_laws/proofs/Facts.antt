@@ -1,5 +1,5 @@
 -- What the parts say of one slab and of one object.
-use Rattle.std.proofs.Common.{◌≡◌, ◌≢◌, ℕ, ◌+◌, ◌*◌, ◌^◌, ◌<◌, ◌≤◌, Option, Some, None, List, [], ◌∷◌, length, refl, sym, ap}
+use Rattle.std.proofs.Common.{◌≡◌, ℕ, ◌^◌, ◌<◌, Option, Some, None, List, [], ◌∷◌, refl, sym, ap}
 use Rattle.std.proofs.Common.{subst, arith, ◌∙◌, inl, inr, ◌⊎◌}
 use Rattle.std.proofs.lemmas.Bool.Decides.{nat_tests}
 use Rattle.pool_types.specs.declared.values.Grant.{Grant}
@@ -7,19 +7,16 @@ use Rattle.pool_words.specs.declared.words.Key.{Key}
 use Rattle.index_lists.specs.Lists.{first_of}
 use Rattle.word_codes.specs.declared.marks.Mark.{Mark}
 use Rattle.word_codes.specs.declared.kinds.Kind.{Kind}
-use Rattle.word_codes.specs.Marks.{mark_of}
-use Rattle.word_laws.proofs.CallerLemmas.{equal_or, less_or}
-use Rattle.chain_laws.specs.Chains.{Link, IsChain, tally}
-use Rattle.chain_laws.specs.Chains.Link.{To, Ends}
+use Rattle.chain_laws.specs.Chains.{Link, IsChain}
 use Rattle.slab_laws.specs.Books.{Keeper, Book, IsThere, record_of}
 use Rattle.slab_laws.specs.OneSlab.{IsHanded, IsSlabOf}
 use Rattle.slab_laws.specs.Heaps.{slab_of, BookFits}
 use Rattle.object_laws.specs.Objects.{Held, granted_in, IsOut, Shadow, Core, links_in, head_link, IsUnit}
-use Rattle.object_laws.specs.Parts.{IsNoGrant, IsHandMark, MarkFits, IsPublicChain, IsSlabKind, IsLargeKind, KindIs, NoteFits}
-use Rattle.object_laws.specs.Parts.{note_of, LargeFits, is_private, is_listed, ObjectsGood}
+use Rattle.object_laws.specs.Parts.{IsNoGrant, IsHandMark, IsSlabKind, IsLargeKind, KindIs}
+use Rattle.object_laws.specs.Parts.{LargeFits, ObjectsGood}
 use Rattle.object_laws.proofs.Parts.Marks.{IsGranted, granted-cases}
 use Rattle.object_laws.proofs.Parts.Marks.IsGranted.{small, large}
-use Rattle.object_laws.proofs.Parts.Once.{private-cases, private-there, listed-there, all_none, listed-cases}
+use Rattle.object_laws.proofs.Parts.Once.{private-cases, private-there}
 use Rattle.object_laws.proofs.Parts.Out.{out-inside}
 
 head_is : (links : ℕ → Link) (head : Option ℕ) (us : List ℕ) → IsChain links (head_link head) us 0

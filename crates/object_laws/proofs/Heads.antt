@@ -1,26 +1,21 @@
 -- What follows of grants, duties and notes.
-use Rattle.std.proofs.Common.{◌≡◌, ◌≢◌, ◌⊎◌, inl, inr, ℕ, ◌+◌, ◌^◌, ◌<◌, ◌≤◌, Bool, true, false, cond, eqb, Option, Some, None}
-use Rattle.std.proofs.Common.{List, [], ◌∷◌, refl, sym, ap, subst, arith, ◌∙◌}
+use Rattle.std.proofs.Common.{◌≡◌, ℕ, ◌+◌, Bool, true, false, cond, eqb, Some}
+use Rattle.std.proofs.Common.{[], ◌∷◌, refl, sym, ap, subst, arith, ◌∙◌}
 use Rattle.std.proofs.lemmas.Bool.Decides.{nat_tests}
-use Rattle.std.proofs.lemmas.Bool.{eqb-true, eq-eqb}
-use Rattle.std.specs.Prelude.{⊤}
+use Rattle.std.proofs.lemmas.Bool.{eqb-true}
 use Rattle.pool_types.specs.declared.values.Grant.{Grant}
 use Rattle.pool_words.specs.declared.words.Key.{Key}
 use Rattle.pool_words.specs.Words.{marks, publics}
 use Rattle.word_codes.specs.declared.marks.Mark.{Mark}
 use Rattle.word_codes.specs.declared.publics.Public.{Public}
-use Rattle.word_codes.specs.declared.kinds.Kind.{Kind}
 use Rattle.word_codes.specs.Marks.{mark_of}
-use Rattle.word_codes.specs.Publics.{public_of, public_word}
-use Rattle.word_codes.specs.Kinds.{kind_of}
+use Rattle.word_codes.specs.Publics.{public_of}
 use Rattle.public_list.specs.declared.ending.EndCall.{EndCall}
 use Rattle.public_list.specs.declared.ending.EndAt.{EndAt}
 use Rattle.public_list.specs.declared.ending.EndNext.{EndNext}
-use Rattle.public_list.specs.declared.posting.PostCall.{PostCall}
 use Rattle.public_list.specs.declared.posting.PostAt.{PostAt}
-use Rattle.public_list.specs.declared.posting.PostNext.{PostNext}
 use Rattle.public_list.specs.Ending.{end_course, end_learn}
-use Rattle.public_list.specs.Posting.{post_course, post_learn, posted, post_by}
+use Rattle.public_list.specs.Posting.{posted, post_by}
 use Rattle.chain_words.specs.declared.pushing.PushAt.{PushAt}
 use Rattle.chain_words.specs.declared.pushing.PushNext.{PushNext}
 use Rattle.word_laws.specs.Memory.{Mem, found, fresh, put}
@@ -28,16 +23,15 @@ use Rattle.word_laws.proofs.CallerLemmas.{less_or}
 use Rattle.slab_laws.specs.Books.{Keeper}
 use Rattle.slab_laws.specs.Heaps.{slab_of, KindFits}
 use Rattle.slab_laws.proofs.CallerLemmas.{kind_none}
-use Rattle.object_laws.specs.Objects.{Held, granted_in, grant_by, with_end, Note, Shadow, Locals, core_in, links_in}
-use Rattle.object_laws.specs.Objects.Task.{Away, Ending, Posting}
-use Rattle.object_laws.specs.Parts.{MarkFits, IsNoGrant, IsPublicChain, TaskFits, NotesFit, NoteFits, ObjectsGood}
+use Rattle.object_laws.specs.Objects.{granted_in, with_end, Shadow, Locals, core_in, links_in}
+use Rattle.object_laws.specs.Objects.Task.{Posting}
+use Rattle.object_laws.specs.Parts.{MarkFits, IsNoGrant, IsPublicChain, TaskFits, NotesFit, ObjectsGood}
 use Rattle.object_laws.specs.Rows.{granted_by, shadow_ended, shadow_posted, shadow_listed}
-use Rattle.object_laws.specs.Named.{no_objects, fresh_locals}
-use Rattle.object_laws.specs.Steps.{ObjectRun}
-use Rattle.object_laws.specs.Laws.{SlabsHaveTheirLists, GrantOnce, EndsGrant, IsWon, GrantEnds, GrantEndsOnce}
-use Rattle.object_laws.specs.Laws.{FindsNull, FindsOthers, Duty, FindingNullGivesTheDuty, NoteTells}
+use Rattle.object_laws.specs.Named.{fresh_locals}
+use Rattle.object_laws.specs.Laws.{SlabsHaveTheirLists, GrantOnce, IsWon, GrantEndsOnce}
+use Rattle.object_laws.specs.Laws.{Duty, FindingNullGivesTheDuty}
 use Rattle.object_laws.specs.Laws.{NotesTellOfHeldObjects, HandsAreListed, FreshPoolsHaveNoObjects}
-use Rattle.slab_laws.proofs.CallerLemmas.{put-same, put-other, each}
+use Rattle.slab_laws.proofs.CallerLemmas.{put-same}
 use Rattle.object_laws.proofs.Parts.Marks.{granted_is_held}
 use Rattle.object_laws.proofs.Seats.{fits_at}
 use Rattle.object_laws.proofs.Facts.{slab_is}

@@ -1,11 +1,9 @@
 -- Each step, and so each run, keeps what holds of objects.
-use Rattle.std.proofs.Common.{◌≡◌, ◌≢◌, ◌⊎◌, inl, inr, ℕ, ◌+◌, ◌^◌, ◌<◌, ◌≤◌, Bool, true, false, cond, eqb, Option, Some, None}
+use Rattle.std.proofs.Common.{◌≡◌, ◌⊎◌, inl, inr, ℕ, ◌+◌, ◌^◌, ◌<◌, ◌≤◌, Bool, true, false, cond, eqb, Some}
 use Rattle.std.proofs.Common.{List, [], ◌∷◌, refl, sym, ap, subst, arith, ◌∙◌}
 use Rattle.std.proofs.lemmas.Bool.Decides.{nat_tests}
 use Rattle.std.proofs.lemmas.Bool.{eqb-true}
-use Rattle.std.specs.Prelude.{⊤}
 use Rattle.pool_types.specs.declared.values.Grant.{Grant}
-use Rattle.pool_types.specs.Sums.{capped}
 use Rattle.pool_words.specs.declared.words.Key.{Key}
 use Rattle.pool_words.specs.declared.words.Word.{Word}
 use Rattle.pool_words.specs.Words.{marks, publics, kinds}
@@ -14,7 +12,7 @@ use Rattle.word_codes.specs.declared.publics.Public.{Public}
 use Rattle.word_codes.specs.declared.kinds.Kind.{Kind}
 use Rattle.word_codes.specs.Marks.{mark_of, mark_word, private_link, public_link}
 use Rattle.word_codes.specs.Publics.{public_of, public_word}
-use Rattle.word_codes.specs.Kinds.{kind_of, kind_word, FitsKind}
+use Rattle.word_codes.specs.Kinds.{kind_of}
 use Rattle.word_codes.specs.Places.{granule_of, slab_granule}
 use Rattle.public_list.specs.declared.looking.LookAt.{LookAt}
 use Rattle.public_list.specs.declared.ending.EndCall.{EndCall}
@@ -22,7 +20,6 @@ use Rattle.public_list.specs.declared.ending.EndAt.{EndAt}
 use Rattle.public_list.specs.declared.ending.EndNext.{EndNext}
 use Rattle.public_list.specs.declared.posting.PostCall.{PostCall}
 use Rattle.public_list.specs.declared.posting.PostAt.{PostAt}
-use Rattle.public_list.specs.declared.posting.PostNext.{PostNext}
 use Rattle.public_list.specs.declared.joining.JoinAt.{JoinAt}
 use Rattle.public_list.specs.declared.joining.JoinNext.{JoinNext}
 use Rattle.public_list.specs.Ending.{end_course, end_learn}
@@ -31,28 +28,27 @@ use Rattle.public_list.specs.Joining.{join_course, join_learn, join_taken, join_
 use Rattle.chain_words.specs.declared.pushing.PushAt.{PushAt}
 use Rattle.chain_words.specs.declared.pushing.PushNext.{PushNext}
 use Rattle.word_laws.specs.Memory.{Mem, put, stored, after, found}
-use Rattle.word_laws.proofs.CallerLemmas.{equal_or, less_or, stored-void}
+use Rattle.word_laws.proofs.CallerLemmas.{less_or}
 use Rattle.chain_laws.specs.Chains.{Link, IsChain, tally}
-use Rattle.chain_laws.specs.Chains.Link.{Other, To, Ends}
 use Rattle.chain_laws.proofs.CallerLemmas.{tally-here, tally-append}
-use Rattle.slab_laws.specs.Books.{Keeper, Book, IsThere, chain_taken, with_begun, with_ended}
-use Rattle.slab_laws.specs.Heaps.{slab_of, IsPlace, SlabFits, KindFits}
+use Rattle.slab_laws.specs.Books.{Keeper, IsThere, chain_taken}
+use Rattle.slab_laws.specs.Heaps.{slab_of, KindFits}
 use Rattle.slab_laws.proofs.CallerLemmas.{capped-is, unit-below}
-use Rattle.object_laws.specs.Objects.{Held, granted_in, IsOut, Task, Note, behind, mark_link, public_link_to, head_link}
+use Rattle.object_laws.specs.Objects.{Held, IsOut, Task, behind, mark_link, head_link}
 use Rattle.object_laws.specs.Objects.{links_in, Shadow, Locals, Core, core_in, IsUnit}
 use Rattle.object_laws.specs.Objects.Task.{Away, Looking, Ending, Posting, Joining, Reading, Taking, Resting, Blocking}
 use Rattle.object_laws.specs.Rely.{Rely, NoReturn}
-use Rattle.object_laws.specs.Parts.{MarkFits, LargeFits, NotesFit, IsPublicChain, PublicChains, FitsPublicLink, IsHandMark, EndFits, NoteFits, note_of}
-use Rattle.object_laws.specs.Parts.{JoinFits, TakenFits, TaskFits, IsInHand, LookFits, ObjectsGood}
+use Rattle.object_laws.specs.Parts.{MarkFits, LargeFits, NotesFit, IsPublicChain, FitsPublicLink}
+use Rattle.object_laws.specs.Parts.{TakenFits, TaskFits, ObjectsGood}
 use Rattle.object_laws.specs.Rows.{with_task, shadow_ended, ended, shadow_posted, shadow_listed, posted_as, shadow_joined}
-use Rattle.object_laws.specs.Rows.{joined_as, grant_word, granted, with_book, next_grant, tail_of}
-use Rattle.object_laws.specs.Steps.{join_of, IsBare, CanBlock, IsStart, ObjectStep, ObjectRun}
+use Rattle.object_laws.specs.Rows.{joined_as, grant_word, next_grant, tail_of}
+use Rattle.object_laws.specs.Steps.{join_of, IsStart}
 use Rattle.object_laws.specs.Steps.ObjectStep.{looks, ends, posts, joins, reads, takes, rests, readies, blocks}
 use Rattle.object_laws.specs.Steps.ObjectStep.{slab_begins, slab_ends, slab_cached, slab_uncached, leaves, comes, goes_back}
 use Rattle.object_laws.specs.Steps.ObjectStep.{adopts, closes, clears, begins, forgets, others}
 use Rattle.object_laws.specs.Steps.ObjectRun.{starts, steps}
 use Rattle.object_laws.specs.Laws.{StepsKeepObjects, RunsKeepObjects}
-use Rattle.slab_laws.proofs.CallerLemmas.{put-same, put-other, each}
+use Rattle.slab_laws.proofs.CallerLemmas.{each}
 use Rattle.object_laws.proofs.Parts.Marks.{granted_is_held}
 use Rattle.object_laws.proofs.Parts.Out.{out-inside}
 use Rattle.object_laws.proofs.Parts.Once.{listed-there, private-there, all_none}
@@ -60,7 +56,7 @@ use Rattle.object_laws.proofs.Parts.Chains.{chain-starts}
 use Rattle.object_laws.proofs.Turns.{lasts-same}
 use Rattle.object_laws.proofs.Seats.{by_other, task-stays, notes-stay, fits_at, taken_at, hand_at, head-mine}
 use Rattle.object_laws.proofs.Facts.{there_of, head-small, unit-small, small_is, slab_not_large, large_is, IsLargeOf}
-use Rattle.object_laws.proofs.Facts.{large-uncached, large-none, none-out}
+use Rattle.object_laws.proofs.Facts.{large-uncached, large-none}
 use Rattle.object_laws.proofs.Facts.IsLargeOf.{large_of}
 use Rattle.object_laws.proofs.EndRows.{own_keeps, other_keeps, large_keeps}
 use Rattle.object_laws.proofs.PostRows.{link_keeps, list_keeps}

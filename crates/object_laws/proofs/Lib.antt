@@ -11,4 +11,5 @@ pub mod Words
 pub mod Looks
 pub mod Keeps
 pub mod Heads
+pub mod Named
 pub mod CallerLemmas

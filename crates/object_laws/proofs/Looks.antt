@@ -1,12 +1,11 @@
 -- A look at a place: what it has noted at each position.
-use Rattle.std.proofs.Common.{◌≡◌, ◌≢◌, ℕ, ◌∷◌, ◌+◌, ◌*◌, ◌/◌, ◌%◌, ◌<◌, ◌≤◌, Bool, true, false, cond, ◌||◌, eqb, Option, Some, None}
+use Rattle.std.proofs.Common.{◌≡◌, ℕ, ◌∷◌, ◌%◌, Bool, true, false, cond, ◌||◌, eqb, Option, Some, None}
 use Rattle.std.proofs.Common.{refl, sym, ap, subst, arith, ◌∙◌}
-use Rattle.std.proofs.lemmas.Bool.Decides.{nat_tests}
 use Rattle.std.proofs.lemmas.Bool.{eqb-true}
 use Rattle.std.specs.Prelude.{⊤}
 use Rattle.pool_types.specs.declared.values.Grant.{Grant}
 use Rattle.pool_words.specs.declared.words.Key.{Key}
-use Rattle.pool_words.specs.Words.{marks, kinds}
+use Rattle.pool_words.specs.Words.{kinds}
 use Rattle.word_codes.specs.declared.marks.Mark.{Mark}
 use Rattle.word_codes.specs.declared.kinds.Kind.{Kind}
 use Rattle.word_codes.specs.declared.region_words.RegionWord.{RegionWord}
@@ -19,16 +18,16 @@ use Rattle.public_list.specs.declared.looking.LookCall.{LookCall}
 use Rattle.public_list.specs.declared.looking.LookFor.{LookFor}
 use Rattle.public_list.specs.declared.looking.LookNext.{LookNext}
 use Rattle.public_list.specs.Looking.{look_course, look_learn, look_placed, look_granted, look_marked, look_held, is_slab}
-use Rattle.public_list.specs.Looking.{look_kinded, look_again, look_region, found_at}
+use Rattle.public_list.specs.Looking.{look_again, look_region}
 use Rattle.word_laws.specs.Memory.{Mem, put, after, found}
 use Rattle.slab_laws.specs.Books.{Keeper, IsThere}
 use Rattle.slab_laws.specs.Heaps.{slab_of, KindFits}
 use Rattle.pool_types.specs.declared.values.Found.TheVariants.{NoPlace}
-use Rattle.object_laws.specs.Objects.{Held, granted_in, IsOut, Task, Note, Shadow, Locals, core_in}
+use Rattle.object_laws.specs.Objects.{Held, granted_in, IsOut, Task, Shadow, Locals, core_in}
 use Rattle.object_laws.specs.Objects.Task.{Away, Looking}
 use Rattle.object_laws.specs.Parts.{MarkFits, LargeFits, SeenFits, OldFits, IfHeld, IsLarge, KindIs, NoteFits, note_of}
 use Rattle.object_laws.specs.Parts.{LookFits, ObjectsGood}
-use Rattle.object_laws.specs.Rows.{looked, with_note}
+use Rattle.object_laws.specs.Rows.{looked}
 use Rattle.object_laws.proofs.Parts.Marks.{granted_is_held, IsGranted, granted-cases}
 use Rattle.object_laws.proofs.Parts.Marks.IsGranted.{small, large}
 use Rattle.object_laws.proofs.Seats.{fits_at, taken_at, hand_at}

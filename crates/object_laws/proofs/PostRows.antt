@@ -1,66 +1,36 @@
 -- Objects that are listed: the mark in hand is linked, and the public word names it.
-use Rattle.std.proofs.Common.{◌≡◌, ◌≢◌, ◌⊎◌, inl, inr, ℕ, ◌+◌, ◌-◌, ◌^◌, ◌<◌, ◌≤◌, cond, eqb, Option, Some, None, List, []}
-use Rattle.std.proofs.Common.{◌∷◌, ◌++◌, length, length-append, append_assoc, refl, sym, ap, subst, arith, ◌∙◌}
-use Rattle.std.proofs.lemmas.Bool.Decides.{nat_tests}
-use Rattle.pool_types.specs.declared.values.Grant.{Grant}
-use Rattle.pool_types.specs.Geometry.{class_count}
+use Rattle.std.proofs.Common.{◌≡◌, ℕ}
+use Rattle.std.proofs.Common.{◌∷◌, refl, sym, ap, subst, ◌∙◌}
 use Rattle.pool_words.specs.declared.words.Key.{Key}
-use Rattle.size_classes.specs.Classes.{class_objects}
 use Rattle.word_codes.specs.declared.marks.Mark.{Mark}
 use Rattle.word_codes.specs.declared.publics.Public.{Public}
-use Rattle.word_codes.specs.declared.kinds.Kind.{Kind}
-use Rattle.word_codes.specs.Marks.{mark_of}
-use Rattle.word_codes.specs.Places.{granule_of, slab_granule}
 use Rattle.word_codes.specs.Publics.{public_of}
-use Rattle.heap_slabs.specs.declared.records.HeapSlab.{HeapSlab}
-use Rattle.heap_slabs.specs.Records.{begun, unit_of, after_free, after_join}
-use Rattle.public_list.specs.declared.ending.EndCall.{EndCall}
-use Rattle.public_list.specs.declared.ending.EndAt.{EndAt}
 use Rattle.public_list.specs.declared.posting.PostCall.{PostCall}
 use Rattle.public_list.specs.declared.posting.PostAt.{PostAt}
-use Rattle.public_list.specs.declared.joining.JoinAt.{JoinAt}
 use Rattle.chain_words.specs.declared.pushing.PushAt.{PushAt}
 use Rattle.word_laws.specs.Memory.{put}
-use Rattle.word_laws.proofs.CallerLemmas.{equal_or, less_or}
-use Rattle.chain_laws.specs.Chains.{Link, Leads, IsChain, IsOnce, tally}
-use Rattle.chain_laws.specs.Chains.Link.{Other, To, Ends}
-use Rattle.chain_laws.proofs.CallerLemmas.{tally-here, tally-else, tally-append, link_joins_chains, leads-same}
-use Rattle.slab_laws.specs.Books.{Keeper, Book, IsThere, record_of, with_private_taken, with_rest_taken, with_freed}
-use Rattle.slab_laws.specs.Books.{with_joined, with_begun, with_ended, with_keeper}
-use Rattle.slab_laws.specs.OneSlab.{IsHanded, IsRecord, IsSlabOf}
-use Rattle.slab_laws.specs.Heaps.{slab_of, IsPlace, SlabFits, NoneFits, BookFits, KindFits, KindsFit}
-use Rattle.slab_laws.proofs.CallerLemmas.{Elsewhere, book-set, headed_else, headed_here, record-of-slab, frees, joins}
-use Rattle.slab_laws.proofs.CallerLemmas.{rest_taken_else, private_taken_else, rest_here, begun_else, begun_here}
-use Rattle.slab_laws.proofs.CallerLemmas.{ended_else, unit-inside, units-once, one_slab_by_its_lists, kinds-set}
-use Rattle.object_laws.specs.Objects.{Held, granted_in, IsOut, Task, Note, mark_link, public_link_to, head_link, links_in}
-use Rattle.object_laws.specs.Objects.{Shadow, Core, grant_by, with_end, IsUnit}
-use Rattle.object_laws.specs.Objects.Task.{Away, Looking, Ending, Posting, Joining, Reading, Taking, Resting, Blocking}
-use Rattle.object_laws.specs.Parts.{IsNoGrant, IsHandMark, MarkFits, MarksFit, GrantsApart, OutFits, LargeFits, LargesFit}
-use Rattle.object_laws.specs.Parts.{is_private, is_listed, IsFilledChain, IsPublicChain, JoinFits, TakenFits, TaskFits}
-use Rattle.object_laws.specs.Parts.{KindIs, NoteFits, NotesFit, note_of, IsInHand, ObjectsGood}
-use Rattle.object_laws.specs.Rely.{IsMine, SameSlab, Rely, NoReturn, TurnFits}
-use Rattle.object_laws.specs.Rely.IsMine.{hand, ready, private}
-use Rattle.object_laws.specs.Rows.{granted_by, shadow_freed, shadow_given, shadow_listed, taken_back, back_in}
-use Rattle.object_laws.specs.Rows.{shadow_joined, tail_of, shadow_private, shadow_granted, shadow_emptied, post_of}
-use Rattle.slab_laws.proofs.CallerLemmas.{put-same, put-other, each, both}
-use Rattle.object_laws.proofs.Parts.Marks.{marks-set, marks-mark, marks-held, mark-back, granted_is_held, grants-granted}
-use Rattle.object_laws.proofs.Parts.Marks.{grants-ended, grants-fewer, grants-put, larges-set}
-use Rattle.object_laws.proofs.Parts.Out.{out-cases, out-is, out-not, out-back, back-out, out-same, out-set, out-none}
-use Rattle.object_laws.proofs.Parts.Out.{out-more, out-inside, room_for}
-use Rattle.object_laws.proofs.Parts.Once.{privates-none, privates-other, listed-none, listed-set, privates-set}
-use Rattle.object_laws.proofs.Parts.Once.{privates-popped, privates-pushed, listed-pushed, privates-taken, listed-taken}
-use Rattle.object_laws.proofs.Parts.Once.{privates-joined, private-cases, private-there, listed-there, all_none}
-use Rattle.object_laws.proofs.Parts.Chains.{marked-else, chain-marked, publics-marked, privates-marked}
-use Rattle.object_laws.proofs.Parts.Chains.{privates-changed, publics-changed, public-pushed, chain-starts, chain_at, Ahead}
-use Rattle.object_laws.proofs.Parts.Chains.Ahead.{on, over}
-use Rattle.object_laws.proofs.Parts.Counts.{counts-set, counts-more}
-use Rattle.object_laws.proofs.Seats.{is_by, by_other, notes-stay, task-stays, seats_keep, fits_at, taken_at, hand_at, head-mine}
-use Rattle.object_laws.proofs.Turns.{OnlyAt, rely_at, same_slab, own_slab, private-no_other, granted-no_one, none-no_one}
-use Rattle.object_laws.proofs.Turns.{hand-no_other, ready-no_other, again-put, none-new, next-new, lasts-same, lasts-more}
+use Rattle.slab_laws.specs.Heaps.{slab_of}
+use Rattle.object_laws.specs.Objects.{Held, IsOut, mark_link, public_link_to, links_in}
+use Rattle.object_laws.specs.Objects.{Shadow, Core}
+use Rattle.object_laws.specs.Objects.Task.{Away, Posting}
+use Rattle.object_laws.specs.Parts.{IsHandMark, MarkFits}
+use Rattle.object_laws.specs.Parts.{is_private, is_listed, IsPublicChain}
+use Rattle.object_laws.specs.Parts.{ObjectsGood}
+use Rattle.object_laws.specs.Rely.{NoReturn}
+use Rattle.object_laws.specs.Rows.{shadow_listed}
+use Rattle.slab_laws.proofs.CallerLemmas.{put-same, put-other, each}
+use Rattle.object_laws.proofs.Parts.Marks.{marks-mark, marks-held}
+use Rattle.object_laws.proofs.Parts.Marks.{grants-put, larges-set}
+use Rattle.object_laws.proofs.Parts.Out.{out-set}
+use Rattle.object_laws.proofs.Parts.Once.{privates-none, listed-none, privates-set}
+use Rattle.object_laws.proofs.Parts.Once.{listed-pushed}
+use Rattle.object_laws.proofs.Parts.Chains.{publics-marked, privates-marked}
+use Rattle.object_laws.proofs.Parts.Chains.{publics-changed, public-pushed}
+use Rattle.object_laws.proofs.Seats.{notes-stay, seats_keep, fits_at, taken_at, hand_at}
+use Rattle.object_laws.proofs.Turns.{rely_at}
+use Rattle.object_laws.proofs.Turns.{hand-no_other, again-put, none-new, lasts-same}
 use Rattle.object_laws.proofs.Turns.{not_in_hand}
-use Rattle.object_laws.proofs.Facts.{slab_is, there_of, handed-of, hand-no-grant, small_is, slab_not_large, IsLargeOf}
-use Rattle.object_laws.proofs.Facts.{large_is, none-out, head-small, unit-small}
-use Rattle.object_laws.proofs.Facts.IsLargeOf.{large_of}
+use Rattle.object_laws.proofs.Facts.{hand-no-grant}
 
 abbrev pub link_core : ℕ → PostCall → ℕ → Mark → Core → Core
 link_core t call found mark s = record s {

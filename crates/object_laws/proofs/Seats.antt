@@ -1,13 +1,11 @@
 -- What a seat relies on stays while another steps.
-use Rattle.std.proofs.Common.{◌≡◌, ◌≢◌, ◌⊎◌, inl, inr, ℕ, ◌+◌, ◌^◌, ◌<◌, ◌≤◌, Option, Some, None, List, [], ◌∷◌, refl, sym, ap}
+use Rattle.std.proofs.Common.{◌≡◌, ◌≢◌, ◌⊎◌, inl, inr, ℕ, ◌≤◌, Option, Some, List, [], ◌∷◌, sym, ap}
 use Rattle.std.proofs.Common.{subst, arith, ◌∙◌, le_trans}
 use Rattle.pool_types.specs.declared.values.Grant.{Grant}
 use Rattle.pool_words.specs.declared.words.Key.{Key}
 use Rattle.size_classes.specs.Classes.{class_objects}
 use Rattle.word_codes.specs.declared.marks.Mark.{Mark}
 use Rattle.word_codes.specs.declared.kinds.Kind.{Kind}
-use Rattle.word_codes.specs.Marks.{mark_of}
-use Rattle.word_codes.specs.Publics.{public_of}
 use Rattle.heap_slabs.specs.declared.records.HeapSlab.{HeapSlab}
 use Rattle.heap_slabs.specs.Records.{unit_of}
 use Rattle.public_list.specs.declared.looking.LookAt.{LookAt}
@@ -19,14 +17,14 @@ use Rattle.word_laws.proofs.CallerLemmas.{equal_or}
 use Rattle.chain_laws.specs.Chains.{Link, IsChain, tally}
 use Rattle.chain_laws.specs.Chains.Link.{To, Ends}
 use Rattle.chain_laws.proofs.CallerLemmas.{leads-same, tally-here}
-use Rattle.slab_laws.specs.Books.{Keeper, Book, record_of}
+use Rattle.slab_laws.specs.Books.{Keeper, Book}
 use Rattle.slab_laws.specs.Heaps.{slab_of}
 use Rattle.object_laws.specs.Objects.{Held, granted_in, Task, Note, Shadow, Core, links_in, mark_link, head_link}
 use Rattle.object_laws.specs.Objects.Task.{Away, Looking, Ending, Posting, Joining, Reading, Taking, Resting, Blocking}
-use Rattle.object_laws.specs.Parts.{IsFilledChain, JoinFits, TakenFits, TakenFit, KindIs, SeenFits, OldFits, IfHeld, IsLarge}
+use Rattle.object_laws.specs.Parts.{IsFilledChain, JoinFits, TakenFits, KindIs, SeenFits, OldFits, IfHeld, IsLarge}
 use Rattle.object_laws.specs.Parts.{NoteFits, NotesFit, note_of, LookFits, EndFits, PostFits, TaskFits, IsInHand, HandsFit}
 use Rattle.object_laws.specs.Parts.{ObjectsGood}
-use Rattle.object_laws.specs.Rely.{IsMine, SameSlab, Rely, NoReturn, TurnFits}
+use Rattle.object_laws.specs.Rely.{Rely, NoReturn, TurnFits}
 use Rattle.object_laws.specs.Rely.IsMine.{hand, ready, private}
 use Rattle.object_laws.specs.Rows.{tail_of}
 use Rattle.object_laws.proofs.Parts.Once.{private-there}

@@ -1,15 +1,14 @@
 -- A step of a seat that changes one unit, and slabs of its own alone.
-use Rattle.std.proofs.Common.{◌≡◌, ◌≢◌, ℕ, ◌+◌, ◌<◌, ◌≤◌, Option, Some, None, refl, sym, ap, subst, arith, ◌∙◌}
+use Rattle.std.proofs.Common.{◌≡◌, ◌≢◌, ℕ, ◌+◌, ◌≤◌, Some, None, refl, sym, ap, subst, arith, ◌∙◌}
 use Rattle.pool_types.specs.declared.values.Grant.{Grant}
-use Rattle.pool_words.specs.declared.words.Key.{Key}
 use Rattle.word_laws.specs.Memory.{put}
 use Rattle.word_laws.proofs.CallerLemmas.{equal_or}
-use Rattle.slab_laws.specs.Books.{Keeper, Book, record_of}
+use Rattle.slab_laws.specs.Books.{Keeper}
 use Rattle.slab_laws.specs.Heaps.{slab_of}
-use Rattle.object_laws.specs.Objects.{Held, granted_in, grant_by, IsOut, Task, Shadow, Core}
-use Rattle.object_laws.specs.Rely.{IsMine, SameSlab, Rely, NoReturn}
+use Rattle.object_laws.specs.Objects.{Held, granted_in, grant_by, Shadow, Core}
+use Rattle.object_laws.specs.Rely.{IsMine, SameSlab, Rely}
 use Rattle.object_laws.specs.Rely.IsMine.{hand, ready, private}
-use Rattle.slab_laws.proofs.CallerLemmas.{put-same, put-other, each, both}
+use Rattle.slab_laws.proofs.CallerLemmas.{put-same, each}
 use Rattle.object_laws.proofs.Seats.{by_other}
 
 pub record OnlyAt (t u : ℕ) (g : Shadow) (s : Core) (h : Shadow) (r : Core) : Type 0 where

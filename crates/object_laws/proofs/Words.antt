@@ -1,7 +1,6 @@
 -- What stores of marks, public words and kinds leave, and what is read back.
-use Rattle.std.proofs.Common.{◌≡◌, ◌≢◌, ℕ, ◌+◌, ◌*◌, ◌%◌, ◌^◌, ◌<◌, ◌≤◌, Bool, true, false, cond, eqb, Option, Some, None, refl, sym}
-use Rattle.std.proofs.Common.{ap, subst, arith, ◌∙◌}
-use Rattle.pool_types.specs.declared.values.Grant.{Grant}
+use Rattle.std.proofs.Common.{◌≡◌, ℕ, ◌+◌, ◌%◌, ◌^◌, ◌<◌, Bool, true, false, cond, eqb, Option, Some, None, refl, sym}
+use Rattle.std.proofs.Common.{ap, subst, arith}
 use Rattle.pool_words.specs.declared.words.Key.{Key}
 use Rattle.pool_words.specs.declared.words.Word.{Word}
 use Rattle.pool_words.specs.declared.actions.Action.{Action}
@@ -15,9 +14,8 @@ use Rattle.word_codes.specs.Marks.{mark_of, mark_word, private_link, public_link
 use Rattle.word_codes.specs.Publics.{public_of, public_word}
 use Rattle.word_codes.specs.Kinds.{kind_of, kind_word, FitsKind}
 use Rattle.word_codes.proofs.CallerLemmas.{marks_read_back, publics_read_back, kinds_read_back}
-use Rattle.word_laws.specs.Memory.{Mem, Valid, put, write, stored, after, word_at}
+use Rattle.word_laws.specs.Memory.{Mem, put, write, stored, after, word_at}
 use Rattle.word_laws.proofs.CallerLemmas.{read_put, less_or, write_else, stored-valid, stored-void}
-use Rattle.chain_laws.specs.Chains.{Link}
 use Rattle.object_laws.specs.Objects.{mark_link, public_link_to, head_link, Locals, Core, core_in, grant_by, IsUnit, Shadow}
 use Rattle.object_laws.specs.Parts.{IsNoGrant, IsHandMark, FitsPublicLink, ObjectsGood}
 use Rattle.object_laws.specs.Steps.{IsOtherWord, IsOtherAction}

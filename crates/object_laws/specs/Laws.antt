@@ -1,5 +1,5 @@
 -- The laws of objects.
-use Rattle.std.specs.Prelude.{◌≡◌, ◌≢◌, ℕ, ◌+◌, ◌^◌, ◌<◌, ◌≤◌, Option, Some, None, List, [], ◌∷◌, ⊤}
+use Rattle.std.specs.Prelude.{◌≡◌, ◌≢◌, ℕ, ◌^◌, ◌<◌, ◌≤◌, Some, None, List, [], ◌∷◌, ⊤}
 use Rattle.pool_types.specs.declared.values.Grant.{Grant}
 use Rattle.pool_words.specs.declared.words.Key.{Key}
 use Rattle.pool_words.specs.Words.{marks, publics}
@@ -7,7 +7,10 @@ use Rattle.word_codes.specs.declared.marks.Mark.{Mark}
 use Rattle.word_codes.specs.declared.publics.Public.{Public}
 use Rattle.word_codes.specs.declared.kinds.Kind.{Kind}
 use Rattle.word_codes.specs.Marks.{mark_of}
+use Rattle.word_codes.specs.Places.{granule_of}
 use Rattle.word_codes.specs.Publics.{public_of}
+use Rattle.heap_slabs.specs.declared.records.HeapSlab.{HeapSlab}
+use Rattle.backend_bins.specs.declared.blocks.Block.{Block}
 use Rattle.public_list.specs.declared.ending.EndCall.{EndCall}
 use Rattle.public_list.specs.declared.ending.EndAt.{EndAt}
 use Rattle.public_list.specs.declared.ending.EndNext.{EndNext}
@@ -16,15 +19,22 @@ use Rattle.public_list.specs.declared.posting.PostAt.{PostAt}
 use Rattle.public_list.specs.declared.posting.PostNext.{PostNext}
 use Rattle.public_list.specs.Ending.{end_course, end_learn}
 use Rattle.public_list.specs.Posting.{post_course, post_learn}
+use Rattle.reset_steps.specs.declared.evict.EvictAt.{EvictAt}
+use Rattle.reset_steps.specs.declared.evict.EvictCall.{EvictCall}
+use Rattle.reset_steps.specs.declared.strip.StripAt.{StripAt}
+use Rattle.reset_steps.specs.Evict.{evict_course, unit_at}
+use Rattle.reset_steps.specs.Strip.{strip_course, object_unit}
 use Rattle.word_laws.specs.Memory.{Mem, found, fresh}
-use Rattle.slab_laws.specs.Books.{IsThere, record_of}
+use Rattle.chain_laws.specs.Named.{ten_key}
+use Rattle.slab_laws.specs.Books.{Keeper, IsThere, record_of}
 use Rattle.slab_laws.specs.OneSlab.{IsSlabOf}
+use Rattle.slab_laws.specs.Heaps.{slab_of}
 use Rattle.object_laws.specs.Objects.{Held, granted_in, Note, Shadow, Locals, Core, core_in}
 use Rattle.object_laws.specs.Objects.Task.{Ending, Posting}
-use Rattle.object_laws.specs.Parts.{KindIs, IsInHand, ObjectsGood}
+use Rattle.object_laws.specs.Parts.{KindIs, IsInHand, TaskFits, ObjectsGood}
 use Rattle.object_laws.specs.Rows.{shadow_ended, shadow_posted}
 use Rattle.object_laws.specs.Steps.{ObjectStep, ObjectRun}
-use Rattle.object_laws.specs.Named.{no_objects, fresh_locals}
+use Rattle.object_laws.specs.Named.{no_objects, fresh_locals, named_objects, named_words}
 
 -- each step of each seat keeps what holds of objects
 abbrev pub StepsKeepObjects : Type 0
@@ -116,3 +126,55 @@ HandsAreListed =
 -- in a new pool no object is
 abbrev pub FreshPoolsHaveNoObjects : Type 0
 FreshPoolsHaveNoObjects = (k : Key) → k.span < 2 ^ 32 → ObjectsGood k no_objects (core_in fresh (fresh_locals))
+
+-- private, given back, held and taken objects, and one in a seat's hand
+abbrev pub NamedObjectsStand : Type 0
+NamedObjectsStand = ObjectsGood ten_key named_objects named_words
+
+-- the exchanges of a reset are those that end a grant, of a slab's object and of a large one
+abbrev pub strip_call : HeapSlab → ℕ → ℕ → ℕ → EndCall
+strip_call r object mark seat = record {
+  unit = object_unit r object;
+  mark = mark;
+  number = 0;
+  seat = seat;
+  head = r.head;
+}
+
+abbrev pub evict_call : ℕ → ℕ → ℕ → EndCall
+evict_call unit mark seat = record { unit = unit; mark = mark; number = 0; seat = seat; head = None }
+
+pub record ResetsEnd (r : HeapSlab) (c : EvictCall) (granule object line mark : ℕ) (b : Block) : Type 0 where
+  pub strips : strip_course r (StripAt.End object mark) ≡ end_course (strip_call r object mark c.seat) EndAt.Own
+  pub evicts : evict_course c (EvictAt.End granule b line mark)
+      ≡ end_course (evict_call (unit_at granule line) mark c.seat) EndAt.Large
+
+abbrev pub ResetsEndGrants : Type 0
+ResetsEndGrants =
+    (r : HeapSlab) (c : EvictCall) (granule object line mark : ℕ) (b : Block)
+    → ResetsEnd r c granule object line mark b
+
+-- where a seat found a grant's mark on an object of a slab that it keeps, or on one in no slab, it may end the grant so
+pub record MayEnd (k : Key) (g : Shadow) (s : Core) (seat unit mark number : ℕ) : Type 0 where
+  pub own : s.book.keeper (slab_of unit) ≡ Keeper.By seat
+      → TaskFits k g s seat (Ending (record {
+        unit = unit;
+        mark = mark;
+        number = number;
+        seat = seat;
+        head = s.book.heads (slab_of unit);
+      }) (Kind.Slab (s.book.classes (slab_of unit))) EndAt.Own)
+  pub large : (IsThere (s.book.keeper (slab_of unit)) → ⊥)
+      → TaskFits k g s seat (Ending (record {
+        unit = unit;
+        mark = mark;
+        number = number;
+        seat = seat;
+        head = None;
+      }) (s.kinds (granule_of unit)) EndAt.Large)
+
+abbrev pub GrantsFoundMayEnd : Type 0
+GrantsFoundMayEnd =
+    (k : Key) (g : Shadow) (m : Mem) (l : Locals) (seat unit number : ℕ) (grant : Grant)
+    → ObjectsGood k g (core_in m l) → mark_of (m marks unit) ≡ Mark.Granted grant
+    → MayEnd k g (core_in m l) seat unit (m marks unit) number

@@ -1,5 +1,5 @@
 -- Who holds each object, what each seat is about to do with one, and what it has noted of others.
-use Rattle.std.specs.Prelude.{ℕ, Bool, true, false, cond, ◌&&◌, eqb, ◌+◌, ◌*◌, ◌<◌, Option, Some, None, List, [], ◌∷◌, ⊤}
+use Rattle.std.specs.Prelude.{ℕ, cond, ◌&&◌, eqb, ◌+◌, ◌*◌, ◌<◌, Option, Some, None, List, ⊤}
 use Rattle.pool_types.specs.declared.values.Grant.{Grant}
 use Rattle.pool_words.specs.declared.words.Key.{Key}
 use Rattle.pool_words.specs.Words.{granule_units, marks, publics, kinds}

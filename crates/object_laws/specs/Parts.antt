@@ -20,7 +20,7 @@ use Rattle.chain_laws.specs.Chains.Link.{To}
 use Rattle.slab_laws.specs.Books.{Keeper, Book, IsThere, record_of}
 use Rattle.slab_laws.specs.OneSlab.{IsHanded}
 use Rattle.slab_laws.specs.Heaps.{slab_of, BookFits, KindsFit}
-use Rattle.object_laws.specs.Objects.{Held, granted_in, IsOut, Task, Note, links_in, mark_link, public_link_to, head_link}
+use Rattle.object_laws.specs.Objects.{Held, granted_in, IsOut, Task, Note, links_in, public_link_to, head_link}
 use Rattle.object_laws.specs.Objects.{Shadow, Core, IsUnit}
 use Rattle.object_laws.specs.Objects.Task.{Away, Looking, Ending, Posting, Joining, Reading, Taking, Resting, Blocking}
 

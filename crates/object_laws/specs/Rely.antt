@@ -1,5 +1,5 @@
 -- What a seat may rely on while others step.
-use Rattle.std.specs.Prelude.{◌≡◌, ◌≢◌, ◌⊎◌, ℕ, ◌≤◌, Some}
+use Rattle.std.specs.Prelude.{◌≡◌, ◌≢◌, ℕ, ◌≤◌, Some}
 use Rattle.pool_types.specs.declared.values.Grant.{Grant}
 use Rattle.pool_words.specs.declared.words.Key.{Key}
 use Rattle.slab_laws.specs.Books.{Keeper, record_of}

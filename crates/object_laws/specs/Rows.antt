@@ -1,16 +1,12 @@
 -- What each step leaves, of the words and of what they stand for.
-use Rattle.std.specs.Prelude.{ℕ, ◌+◌, cond, eqb, Option, Some, None, List, [], ◌∷◌, ◌++◌}
+use Rattle.std.specs.Prelude.{ℕ, ◌+◌, cond, eqb, List, [], ◌∷◌, ◌++◌}
 use Rattle.pool_types.specs.declared.values.Grant.{Grant}
 use Rattle.word_codes.specs.declared.marks.Mark.{Mark}
-use Rattle.word_codes.specs.declared.publics.Public.{Public}
 use Rattle.word_codes.specs.declared.kinds.Kind.{Kind}
 use Rattle.word_codes.specs.Marks.{mark_of, mark_word}
-use Rattle.word_codes.specs.Places.{granule_of}
 use Rattle.public_list.specs.declared.looking.LookCall.{LookCall}
-use Rattle.public_list.specs.declared.looking.LookAt.{LookAt}
 use Rattle.public_list.specs.declared.looking.LookNext.{LookNext}
 use Rattle.public_list.specs.declared.ending.EndCall.{EndCall}
-use Rattle.public_list.specs.declared.ending.EndAt.{EndAt}
 use Rattle.public_list.specs.declared.ending.EndNext.{EndNext}
 use Rattle.public_list.specs.declared.posting.PostCall.{PostCall}
 use Rattle.public_list.specs.declared.posting.PostAt.{PostAt}
@@ -19,11 +15,10 @@ use Rattle.public_list.specs.declared.joining.JoinAt.{JoinAt}
 use Rattle.public_list.specs.declared.joining.JoinNext.{JoinNext}
 use Rattle.chain_words.specs.declared.pushing.PushAt.{PushAt}
 use Rattle.word_laws.specs.Memory.{put}
-use Rattle.slab_laws.specs.Books.{Keeper, Book, with_private_taken, with_rest_taken, with_freed, with_joined, with_begun}
-use Rattle.slab_laws.specs.Books.{with_ended, with_keeper}
+use Rattle.slab_laws.specs.Books.{Book, with_freed, with_joined}
 use Rattle.slab_laws.specs.Heaps.{slab_of}
-use Rattle.object_laws.specs.Objects.{Held, Task, Note, behind, Shadow, Locals, grant_by, with_end}
-use Rattle.object_laws.specs.Objects.Task.{Away, Looking, Ending, Posting, Joining, Reading, Taking, Resting, Blocking}
+use Rattle.object_laws.specs.Objects.{Held, Task, Note, Shadow, Locals, grant_by, with_end}
+use Rattle.object_laws.specs.Objects.Task.{Away, Looking, Ending, Posting, Joining}
 use Rattle.object_laws.specs.Parts.{note_of}
 
 abbrev pub with_task : ℕ → Task → Locals → Locals

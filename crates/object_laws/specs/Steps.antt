@@ -1,6 +1,6 @@
 -- The steps on marks, public words and kinds, and those after which a slab is kept by another: what each rests on, and
 -- what it leaves.
-use Rattle.std.specs.Prelude.{◌≡◌, ◌≢◌, ℕ, ◌+◌, ◌^◌, ◌<◌, Option, Some, None, List, ◌∷◌, ⊤}
+use Rattle.std.specs.Prelude.{◌≡◌, ◌≢◌, ℕ, ◌+◌, ◌^◌, ◌<◌, Option, List, ◌∷◌, ⊤}
 use Rattle.pool_types.specs.Geometry.{class_count}
 use Rattle.pool_words.specs.declared.words.Key.{Key}
 use Rattle.pool_words.specs.declared.words.Word.{Word}
@@ -13,7 +13,7 @@ use Rattle.word_codes.specs.declared.kinds.Kind.{Kind}
 use Rattle.word_codes.specs.Kinds.{kind_word, FitsKind}
 use Rattle.word_codes.specs.Marks.{mark_of}
 use Rattle.word_codes.specs.Places.{granule_of, slab_granule}
-use Rattle.word_codes.specs.Publics.{public_of, public_word}
+use Rattle.word_codes.specs.Publics.{public_word}
 use Rattle.public_list.specs.declared.looking.LookCall.{LookCall}
 use Rattle.public_list.specs.declared.looking.LookAt.{LookAt}
 use Rattle.public_list.specs.declared.ending.EndCall.{EndCall}
@@ -33,7 +33,7 @@ use Rattle.slab_laws.specs.Books.{with_keeper, with_chain_taken}
 use Rattle.slab_laws.specs.Heaps.{slab_of, IsPlace}
 use Rattle.object_laws.specs.Objects.{Held, Task, Note, behind, Shadow, Locals, core_in, IsUnit}
 use Rattle.object_laws.specs.Objects.Task.{Away, Looking, Ending, Posting, Joining, Reading, Taking, Resting, Blocking}
-use Rattle.object_laws.specs.Parts.{TaskFits, note_of}
+use Rattle.object_laws.specs.Parts.{TaskFits}
 use Rattle.object_laws.specs.Rows.{with_task, looked, shadow_ended, ended, shadow_posted, posted_as, shadow_joined}
 use Rattle.object_laws.specs.Rows.{joined_as, next_grant, grant_word, granted, shadow_granted, shadow_private}
 use Rattle.object_laws.specs.Rows.{shadow_emptied, with_book}

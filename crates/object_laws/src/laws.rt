@@ -2,7 +2,9 @@
 
 ghost use Rattle.object_laws.specs.Laws.{StepsKeepObjects, RunsKeepObjects, SlabsHaveTheirLists, GrantEndsOnce};
 ghost use Rattle.object_laws.specs.Laws.{FindingNullGivesTheDuty, NotesTellOfHeldObjects, HandsAreListed};
-ghost use Rattle.object_laws.specs.Laws.{FreshPoolsHaveNoObjects};
+ghost use Rattle.object_laws.specs.Laws.{FreshPoolsHaveNoObjects, NamedObjectsStand};
+ghost use Rattle.object_laws.specs.Laws.{ResetsEndGrants, GrantsFoundMayEnd};
+ghost use Rattle.object_laws.specs.Wrong.{StrangersFreesAreWrong, StoredPushesAreWrong, LooseJoinsAreWrong};
 
 /// Each step of each seat keeps what holds of objects.
 pub fn steps_keep_objects()
@@ -43,4 +45,34 @@ pub fn hands_are_listed()
 /// In a new pool there is no object.
 pub fn fresh_pools_have_no_objects()
     ensures { FreshPoolsHaveNoObjects }
+{}
+
+/// Private, given back, held and taken objects, and one in a seat's hand, meet every part.
+pub fn named_objects_stand()
+    ensures { NamedObjectsStand }
+{}
+
+/// The exchanges of a reset are those that end a grant.
+pub fn resets_end_grants()
+    ensures { ResetsEndGrants }
+{}
+
+/// A grant's mark that a seat found on an object of its own slab, or outside slabs, may be ended by it.
+pub fn grants_found_may_end()
+    ensures { GrantsFoundMayEnd }
+{}
+
+/// A stranger's free onto the private list is wrong.
+pub fn strangers_frees_are_wrong()
+    ensures { StrangersFreesAreWrong }
+{}
+
+/// A push that stores the public word in place of the exchange is wrong.
+pub fn stored_pushes_are_wrong()
+    ensures { StoredPushesAreWrong }
+{}
+
+/// A join that leaves the last link of the list as it was is wrong.
+pub fn loose_joins_are_wrong()
+    ensures { LooseJoinsAreWrong }
 {}

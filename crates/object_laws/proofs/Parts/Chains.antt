@@ -1,17 +1,17 @@
 -- Chains of links against the lists.
-use Rattle.std.proofs.Common.{◌≡◌, ◌≢◌, ◌⊎◌, inl, inr, ℕ, ◌+◌, ◌<◌, ◌≤◌, Option, Some, None, List, [], ◌∷◌, ◌++◌, length, refl}
-use Rattle.std.proofs.Common.{sym, ap, subst, arith, ◌∙◌}
+use Rattle.std.proofs.Common.{◌≡◌, ◌≢◌, ℕ, ◌<◌, Option, List, [], ◌∷◌, ◌++◌, refl}
+use Rattle.std.proofs.Common.{sym, ap, subst, arith}
 use Rattle.word_codes.specs.declared.marks.Mark.{Mark}
 use Rattle.word_codes.specs.declared.publics.Public.{Public}
 use Rattle.word_laws.specs.Memory.{put}
 use Rattle.word_laws.proofs.CallerLemmas.{put_else}
-use Rattle.chain_laws.specs.Chains.{Link, Leads, IsChain, tally}
-use Rattle.chain_laws.specs.Chains.Link.{Other, To, Ends}
-use Rattle.chain_laws.proofs.CallerLemmas.{leads-same, leads-split, leads-join, tally-here}
+use Rattle.chain_laws.specs.Chains.{Link, IsChain, tally}
+use Rattle.chain_laws.specs.Chains.Link.{To, Ends}
+use Rattle.chain_laws.proofs.CallerLemmas.{leads-same, leads-split}
 use Rattle.object_laws.specs.Objects.{links_in, mark_link, public_link_to, head_link}
-use Rattle.object_laws.specs.Parts.{IsFilledChain, IsPublicChain, PublicChains, PrivateChains}
+use Rattle.object_laws.specs.Parts.{IsPublicChain, PublicChains, PrivateChains}
 use Rattle.object_laws.specs.Rows.{tail_of}
-use Rattle.slab_laws.proofs.CallerLemmas.{put-same, put-other, each, both}
+use Rattle.slab_laws.proofs.CallerLemmas.{both}
 
 -- the links of marks of which one was written that is none of a list's
 pub marked-else : (marks : ℕ → Mark) (u : ℕ) (m : Mark) (us : List ℕ) → tally u us ≡ 0 → (x : ℕ) → 0 < tally x us

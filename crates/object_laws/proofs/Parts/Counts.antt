@@ -1,8 +1,8 @@
 -- A slab's count against its lists.
-use Rattle.std.proofs.Common.{◌≡◌, ◌≢◌, ℕ, ◌+◌, ◌<◌, ◌≤◌, List, length, refl, sym, ap, arith, ◌∙◌}
+use Rattle.std.proofs.Common.{◌≡◌, ℕ, ◌+◌, List, length, arith}
 use Rattle.word_laws.specs.Memory.{put}
 use Rattle.object_laws.specs.Parts.{CountsFit}
-use Rattle.slab_laws.proofs.CallerLemmas.{put-same, put-other, each, both}
+use Rattle.slab_laws.proofs.CallerLemmas.{both}
 
 pub counts-set : (handed counts : ℕ → ℕ) (privates : ℕ → List ℕ) (e n : ℕ) (us : List ℕ) → n + length us ≡ handed e
     → CountsFit handed counts privates → CountsFit handed (put counts e n) (put privates e us)

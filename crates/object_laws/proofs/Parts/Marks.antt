@@ -1,5 +1,5 @@
 -- Marks and grants against the holders.
-use Rattle.std.proofs.Common.{◌≡◌, ◌≢◌, ◌⊎◌, inl, inr, ℕ, ◌+◌, ◌<◌, ◌≤◌, Bool, true, false, cond, ◌&&◌, eqb, Option, Some, None}
+use Rattle.std.proofs.Common.{◌≡◌, ◌≢◌, ◌⊎◌, inl, inr, ℕ, ◌+◌, ◌<◌, ◌≤◌, Some, None}
 use Rattle.std.proofs.Common.{refl, sym, ap, subst, arith, ◌∙◌, le_trans}
 use Rattle.std.proofs.lemmas.Bool.Decides.{nat_tests}
 use Rattle.pool_types.specs.declared.values.Grant.{Grant}
@@ -14,7 +14,7 @@ use Rattle.slab_laws.specs.Heaps.{slab_of}
 use Rattle.object_laws.specs.Objects.{Held, granted_in, grant_by, with_end}
 use Rattle.object_laws.specs.Parts.{MarkFits, MarksFit, GrantsApart, LargeFits, LargesFit}
 use Rattle.object_laws.specs.Rows.{taken_back}
-use Rattle.slab_laws.proofs.CallerLemmas.{put-same, put-other, each, both}
+use Rattle.slab_laws.proofs.CallerLemmas.{put-same, each, both}
 
 pub marks-set : (held : ℕ → Held) (marks : ℕ → Mark) (u : ℕ) (h : Held) (m : Mark) → MarkFits h m → MarksFit held marks
     → MarksFit (put held u h) (put marks u m)

@@ -1,15 +1,15 @@
 -- Each private, given back and taken object once.
-use Rattle.std.proofs.Common.{◌≡◌, ◌≢◌, ◌⊎◌, inl, inr, ℕ, ◌+◌, ◌<◌, ◌≤◌, cond, eqb, List, [], ◌∷◌, ◌++◌, length, refl, sym}
-use Rattle.std.proofs.Common.{ap, subst, arith, ◌∙◌}
+use Rattle.std.proofs.Common.{◌≡◌, ◌≢◌, ◌⊎◌, inl, inr, ℕ, ◌+◌, ◌<◌, List, [], ◌∷◌, ◌++◌, refl, sym}
+use Rattle.std.proofs.Common.{ap, arith, ◌∙◌}
 use Rattle.std.proofs.lemmas.Bool.Decides.{nat_tests}
 use Rattle.word_laws.specs.Memory.{put}
 use Rattle.chain_laws.specs.Chains.{tally}
-use Rattle.chain_laws.proofs.CallerLemmas.{tally-append, tally-here, tally-else}
+use Rattle.chain_laws.proofs.CallerLemmas.{tally-append, tally-here}
 use Rattle.slab_laws.specs.Heaps.{slab_of}
-use Rattle.object_laws.specs.Objects.{Held, IsOut}
+use Rattle.object_laws.specs.Objects.{Held}
 use Rattle.object_laws.specs.Parts.{is_private, is_listed, in_slab, PrivatesOnce, ListedOnce}
 use Rattle.object_laws.specs.Rows.{taken_back, back_in}
-use Rattle.slab_laws.proofs.CallerLemmas.{put-same, put-other, each, both}
+use Rattle.slab_laws.proofs.CallerLemmas.{each}
 
 -- what is not private is in no private list
 pub privates-none : (held : ℕ → Held) (privates taken : ℕ → List ℕ) (u : ℕ) → is_private (held u) ≡ 0

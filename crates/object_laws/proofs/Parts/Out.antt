@@ -1,23 +1,20 @@
 -- What is out of a slab's rest.
-use Rattle.std.proofs.Common.{◌≡◌, ◌≢◌, ◌⊎◌, inl, inr, ℕ, ◌+◌, ◌*◌, ◌/◌, ◌^◌, ◌<◌, ◌≤◌, cond, eqb, Option, Some, None, List, length}
-use Rattle.std.proofs.Common.{refl, sym, ap, subst, arith, ◌∙◌, le_trans}
-use Rattle.std.proofs.lemmas.Bool.Decides.{nat_tests}
-use Rattle.pool_types.specs.declared.values.Grant.{Grant}
+use Rattle.std.proofs.Common.{◌≡◌, ◌⊎◌, inl, inr, ℕ, ◌+◌, ◌<◌, ◌≤◌, List, length}
+use Rattle.std.proofs.Common.{sym, subst, arith, le_trans}
 use Rattle.pool_words.specs.declared.words.Key.{Key}
-use Rattle.size_classes.specs.Classes.{class_objects}
 use Rattle.heap_slabs.specs.Records.{unit_of}
 use Rattle.word_laws.specs.Memory.{put}
 use Rattle.word_laws.proofs.CallerLemmas.{equal_or}
 use Rattle.chain_laws.specs.Chains.{tally, IsOnce}
 use Rattle.chain_laws.proofs.CallerLemmas.{lists_among_are_short}
-use Rattle.slab_laws.specs.Books.{Keeper, Book, IsThere, record_of, with_rest_taken}
+use Rattle.slab_laws.specs.Books.{Book, IsThere, record_of, with_rest_taken}
 use Rattle.slab_laws.specs.OneSlab.{IsHanded}
 use Rattle.slab_laws.specs.Heaps.{slab_of, BookFits}
-use Rattle.slab_laws.proofs.CallerLemmas.{unit-inside, unit-below}
-use Rattle.object_laws.specs.Objects.{Held, granted_in, IsOut, IsUnit, Core}
+use Rattle.slab_laws.proofs.CallerLemmas.{unit-below}
+use Rattle.object_laws.specs.Objects.{Held, IsOut, IsUnit}
 use Rattle.object_laws.specs.Parts.{OutFits}
 use Rattle.object_laws.specs.Rows.{taken_back}
-use Rattle.slab_laws.proofs.CallerLemmas.{put-same, put-other, each, both}
+use Rattle.slab_laws.proofs.CallerLemmas.{put-same, each}
 
 pub out-cases : (h : Held) → IsOut h ⊎ (IsOut h → ⊥)
 out-cases Held.NotOut = inr (λ e. e)

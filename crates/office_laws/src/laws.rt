@@ -1,0 +1,61 @@
+//! The laws. The functions do nothing: each has a law as its contract.
+
+ghost use Rattle.office_laws.specs.Laws.{StepsKeepOffice, RunsKeepOffice, OnlyTheOfficeChangesRegions};
+ghost use Rattle.office_laws.specs.Laws.{GranulesHaveOneRegion, NumbersNeverReturn, GivenRegionsAreFound};
+ghost use Rattle.office_laws.specs.Laws.{ObtainedRegionsAreFresh, FreshOfficesHaveNoRegions, NamedOfficeStands};
+ghost use Rattle.office_laws.specs.Wrong.{EarlyRemovalsAreWrong, WalllessRegionsAreWrong};
+
+/// Each step of each seat keeps what holds of the office and of regions.
+pub fn steps_keep_office()
+    ensures { StepsKeepOffice }
+{}
+
+/// So does any number of steps.
+pub fn runs_keep_office()
+    ensures { RunsKeepOffice }
+{}
+
+/// The words of regions are changed by the one seat that is at the office, and by no other.
+pub fn only_the_office_changes_regions()
+    ensures { OnlyTheOfficeChangesRegions }
+{}
+
+/// No granule and no wall is in two regions.
+pub fn granules_have_one_region()
+    ensures { GranulesHaveOneRegion }
+{}
+
+/// The number of a region that has left is no later region's.
+pub fn numbers_never_return()
+    ensures { NumbersNeverReturn }
+{}
+
+/// The slot that a seat found is that of the region that it gives back.
+pub fn given_regions_are_found()
+    ensures { GivenRegionsAreFound }
+{}
+
+/// A region that the office's contract says it obtained may come: it has a number, a slot and indices of its own.
+pub fn obtained_regions_are_fresh()
+    ensures { ObtainedRegionsAreFresh }
+{}
+
+/// In a new pool no region is.
+pub fn fresh_offices_have_no_regions()
+    ensures { FreshOfficesHaveNoRegions }
+{}
+
+/// A region in its slot, and a seat at the office, meet every part.
+pub fn named_office_stands()
+    ensures { NamedOfficeStands }
+{}
+
+/// A region's word that is cleared before the office is taken is wrong.
+pub fn early_removals_are_wrong()
+    ensures { EarlyRemovalsAreWrong }
+{}
+
+/// A region that comes without a wall is wrong.
+pub fn wallless_regions_are_wrong()
+    ensures { WalllessRegionsAreWrong }
+{}

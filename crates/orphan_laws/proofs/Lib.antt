@@ -1,0 +1,14 @@
+pub mod Words
+pub mod Seats
+pub mod Rows
+pub mod Leaving
+pub mod Pushing
+pub mod Returning
+pub mod Adopting
+pub mod Taking
+pub mod Asides
+pub mod Mails
+pub mod Slabs
+pub mod Keeps
+pub mod Examples
+pub mod CallerLemmas
