@@ -1,6 +1,6 @@
 -- Each step of a course keeps the rule of the table.
 use Rattle.std.proofs.Common.{◌≡◌, ◌≢◌, ◌⊎◌, ℕ, suc, ◌+◌, ◌%◌, ◌^◌, ◌<◌, ◌≤◌, Bool, true, false, cond, eqb, List, []}
-use Rattle.std.proofs.Common.{◌∷◌, length, refl, sym, ap, ◌∙◌, subst, ⊎_elim, arith}
+use Rattle.std.proofs.Common.{◌∷◌, length, refl, sym, ap, ◌∙◌, subst, inl, ⊎_elim, arith}
 use Rattle.std.specs.Prelude.{Option, Some, None, slice_set, slice_index}
 use Rattle.std.proofs.lemmas.List.{set-get_or, get_or_past, set_past}
 use Rattle.std.proofs.lemmas.Bool.Decides.{eqb_tells}
@@ -25,17 +25,15 @@ use Rattle.step_local.specs.Learn.{learn}
 use Rattle.step_runs.specs.declared.entry.Entry.{Entry}
 use Rattle.step_runs.specs.Places.{has_word, Carry, away, in_slot, in_hand, carry_of, HasDesk}
 use Rattle.step_runs.specs.Places.{Move, stays, takes, gives, move_of}
-use Rattle.step_runs.specs.Entries.{seen_by, learnt}
+use Rattle.step_runs.specs.Entries.{seen_by, learnt, first_entry}
 use Rattle.step_runs.specs.Runs.{Callback, Silent, home_after, Run}
 use Rattle.step_runs.specs.Runs.Run.{stepped}
 use Rattle.step_runs.specs.Laws.{Onward}
 use Rattle.step_runs.proofs.CallerLemmas.{steps_go_onward, IsHome, takes_free, run_stands, Keeps, run_keeps}
+use Rattle.atomic_driver.specs.declared.rule.Note.{Note}
 use Rattle.atomic_driver.specs.declared.rule.View.{View}
-use Rattle.atomic_driver.specs.Rule.{Rule, Tied, IsTied, Noted, IsNoted, home_of}
-use Rattle.atomic_driver.specs.Steps.{word_of, becomes, taught, noted_after, view_after, Carried, SlotOut, InARow}
-use Rattle.atomic_driver.specs.Steps.{Ready}
-use Rattle.atomic_driver.specs.Steps.{IsAll, Whole, Steps}
-use Rattle.atomic_driver.proofs.Looks.{at_low, at_some}
+use Rattle.atomic_driver.specs.Rule.{Rule, Tied, IsTied, Noted, IsNoted, HasNote, home_of}
+use Rattle.atomic_driver.specs.Steps.{word_of, becomes, taught, view_after, Carried, SlotOut, Ready, Steps}
 
 -- an action that names a word is one on a word
 pub word_is : (action : Action) (w : Word) → word_of action ≡ some w → has_word action ≡ true
@@ -60,7 +58,7 @@ found_is k words (TakeOffice job) w e = absurd (some-ne-none w (sym e))
 found_is k words GiveOffice w e = absurd (some-ne-none w (sym e))
 found_is k words Nothing w e = absurd (some-ne-none w (sym e))
 
-becomes_is : (k : Key) (words : List ℕ) (action : Action) (w : Word) → word_of action ≡ some w
+pub becomes_is : (k : Key) (words : List ℕ) (action : Action) (w : Word) → word_of action ≡ some w
     → slice_set words (index_of k w) (becomes action (slice_index words (index_of k w))) ≡ after_action k words action
 becomes_is k words (Load x) w e = set-get_or words (index_of k w) 0
 becomes_is k words (Store x v) w e = ap (λ y. slice_set words (index_of k y) v) (sym (some-injective x w e))
@@ -81,7 +79,7 @@ becomes_is k words GiveOffice w e = absurd (some-ne-none w (sym e))
 becomes_is k words Nothing w e = absurd (some-ne-none w (sym e))
 
 -- a word that is none is found as 0, and is not written
-void_finds : (k : Key) (words : List ℕ) (action : Action) (w : Word) → word_of action ≡ some w
+pub void_finds : (k : Key) (words : List ℕ) (action : Action) (w : Word) → word_of action ≡ some w
     → length words ≤ index_of k w → finds k words action ≡ 0
 void_finds k words (Store x v) w e past = refl
 void_finds k words (TakeOffice job) w e past = refl
@@ -100,7 +98,7 @@ void_set : (k : Key) (words : List ℕ) (x w : Word) (v : ℕ) → x ≡ w → l
     → with_word k words x v ≡ words
 void_set k words x w v same past = ap (λ y. slice_set words (index_of k y) v) same ∙ set_past words (index_of k w) v past
 
-void_leaves : (k : Key) (words : List ℕ) (action : Action) (w : Word) → word_of action ≡ some w
+pub void_leaves : (k : Key) (words : List ℕ) (action : Action) (w : Word) → word_of action ≡ some w
     → length words ≤ index_of k w → after_action k words action ≡ words
 void_leaves k words (Load x) w e past = refl
 void_leaves k words (Store x v) w e past = void_set k words x w v (some-injective x w e) past
@@ -114,11 +112,6 @@ void_leaves k words (Add x v) w e past = void_set k words x w _ (some-injective 
 void_leaves k words (TakeOffice job) w e past = refl
 void_leaves k words GiveOffice w e past = refl
 void_leaves k words Nothing w e past = refl
-
-noted_is : (k : Key) (action : Action) (was : Option (List ℕ)) (now : List ℕ) → noted_after k action was ≡ Some now
-    → (words : List ℕ) × (was ≡ Some words) × (after_action k words action ≡ now)
-noted_is k action None now e = absurd (cc)
-noted_is k action (Some words) now e = (words, refl, cc)
 
 module _ {D : Type 0} where
   -- the slot that is given back
@@ -151,6 +144,23 @@ module _ {D : Type 0} where
       × (home_after gives home desk ≡ home_of (homes_after (y ∷ homes) z a)) × Carried gives home z (carried_after z a))
       (sym out) (Act.gives, tt, refl, refl)
 
+  pub no_note : (v u : View D) (note : Note D) → v ≡ u → v.note ≡ None → u.note ≡ Some note → ⊥
+  no_note v u note same bare is = let z : None ≡ Some note = sym bare ∙ ap (λ (x : View D). x.note) same ∙ is in cc
+
+  -- where a view has no note and a seat, what lies at home is in the slot
+  pub in_slot_by : (c : Callback D) (k : Key) (IsFirst : D → Type 0) (words : List ℕ) (slot : Option D)
+      (views : List (View D)) (r : Rule c k IsFirst words slot views) (id : ℕ) (v : View D) (j : ℕ) (e : Entry D)
+      → get_elem? views id ≡ some v → get_elem? v.entries j ≡ some e → v.note ≡ None → slot ≡ r.home
+  in_slot_by c k IsFirst words slot views r id v j e at at_e bare = ⊎_elim
+      (λ (here : slot ≡ r.home). here)
+      (λ (there : HasNote views).
+      let mine = r.tied id v j e at at_e in
+      let theirs = r.noted there.id there.view there.note there.at there.noted in
+      let same : id ≡ there.id = sym mine.owned ∙ theirs.owns e.seat mine.low in
+      let at_same : get_elem? views id ≡ some there.view = ap (get_elem? views) same ∙ there.at in
+      absurd (no_note v there.view there.note (some-injective v there.view (sym at ∙ at_same)) bare there.noted))
+      r.lies
+
   module _ (c : Callback D) (k : Key) (IsFirst Is : D → Type 0) (keeps : Keeps Is c)
       (first_is : (one : D) → IsFirst one → Is one) where
     abbrev pub rule_of : State (Option D) (View D) → Type 0
@@ -179,12 +189,18 @@ module _ {D : Type 0} where
       mine : IsTied k r.all r.owner id e
       mine = r.tied id me.0 j e at_view ready.there
 
+      lies_home : r.home ≡ home_of s.homes
+      lies_home = sym (in_slot_by c k IsFirst s.words (home_of s.homes) s.views r id me.0 j e at_view ready.there ready.unnoted)
+
+      run_here : Run c k r.first s.words (home_of s.homes) r.all
+      run_here = subst (λ (h : Option D). Run c k r.first s.words h r.all) lies_home r.run
+
       on : Onward (carry_of l.at) move (carry_of (learn l (seen_by (course l) f)).0.at)
       on = (steps_go_onward l f word).carry
 
       home_is : move ≡ takes → IsHome home
       home_is is =
-          let stands = run_stands r.run in
+          let stands = run_stands run_here in
           let acts = actions_act_by_kind k s.words (course l) stands.sized in
           stands.free (takes_free (memory k s.words) l l.at (ap (move_of l.at) (sym acts.sees) ∙ is))
 
@@ -199,14 +215,14 @@ module _ {D : Type 0} where
       run_after : Run c k r.first words_now (home_of (homes_after s.homes me.1 chosen.0)) (put r.all t after_e)
       run_after =
           let since = subst (λ (x : Entry D). Silent c x.local x.desk l desk) (sym mine.entry) ready.since in
-          let base = stepped r.run t l desk since word in
+          let base = stepped run_here t l desk since word in
           let at_home = subst (λ (h : Option D). Run c k r.first words_now h
           (put r.all t (learnt (r.all t) l home desk f))) chosen.2 base in
           subst (λ (x : Entry D). Run c k r.first words_now (home_of (homes_after s.homes me.1 chosen.0))
           (put r.all t (learnt x l home desk f))) mine.entry at_home
 
       abbrev view_now : View D
-      view_now = view_after k me.0 j e l home desk f
+      view_now = view_after me.0 j e l home desk f
 
       tied_after : Tied k (put r.all t after_e) r.owner (slice_set s.views id view_now)
       tied_after id2 v i x at_v at_x = ⊎_elim
@@ -238,54 +254,25 @@ module _ {D : Type 0} where
           })
           (at_set s.views id id2 view_now v at_v)
 
-      noted_now : Noted k words_now r.owner (slice_set s.views id view_now)
+      noted_now : Noted k words_now (home_of (homes_after s.homes me.1 chosen.0)) r.owner (slice_set s.views id view_now)
       noted_now id2 v note at_v is_note = ⊎_elim
-          (λ (here : (id2 ≡ id) × (view_now ≡ v)).
-          let was = noted_is k (course l) me.0.note note (ap (λ (q : View D). q.note) here.1 ∙ is_note) in
-          let old = r.noted id me.0 was.0 at_view was.1 in
-          record {
-            words_are = ap (λ (q : List ℕ). after_action k q (course l)) old.words_are ∙ was.2;
-            owns = λ seat low. old.owns seat low ∙ sym here.0;
-          })
+          (λ (here : (id2 ≡ id) × (view_now ≡ v)). absurd (no_note view_now v note here.1 refl is_note))
           (λ (there : (id2 ≢ id) × (get_elem? s.views id2 ≡ some v)).
           let old = r.noted id2 v note there.1 is_note in
           absurd (there.0 (sym (old.owns t mine.low) ∙ mine.owned)))
           (at_set s.views id id2 view_now v at_v)
 
-      whole_after : (note : List ℕ) → me.0.note ≡ Some note → IsAll k me.0.entries
-          → Whole c k IsFirst (after_action k note (course l)) view_now.entries
-      whole_after note is_note is_all =
-          let entries = me.0.entries in
-          let words = (r.noted id me.0 note at_view is_note).words_are in
-          let is_j : t ≡ j = is_all.each j e ready.there in
-          subst (λ (z : List ℕ). Whole c k IsFirst (after_action k z (course l)) view_now.entries) words (record {
-            first = r.first;
-            is_first = r.is_first;
-            home = home_of (homes_after s.homes me.1 chosen.0);
-            all = put r.all t after_e;
-            each = λ x low. ⊎_elim
-                (λ (z : (eqb t x ≡ true) × (t ≡ x)).
-                let h : j < length entries = at_low entries j e ready.there in
-                subst (λ (q : ℕ). get_elem? (slice_set entries j after_e) q ≡ some (put r.all t after_e q)) z.1
-                (subst (λ (q : ℕ). get_elem? (slice_set entries j after_e) q ≡ some (put r.all t after_e t)) (sym is_j)
-                (set_here entries j after_e h ∙ ap some (sym (put_here r.all t t after_e refl)))))
-                (λ (z : (eqb t x ≡ false) × (t ≢ x)).
-                let p = at_some entries x (let q = is_all.count in omega arith) in
-                let seat_is = is_all.each x p.0 p.1 in
-                let old = r.tied id me.0 x p.0 at_view p.1 in
-                let differ = z.1 in
-                set_else entries j x after_e (λ (q : x ≡ j). differ (is_j ∙ sym q)) ∙ p.1
-                ∙ ap some (sym old.entry ∙ ap r.all seat_is) ∙ ap some (sym (put_else r.all t x after_e differ)))
-                (eqb_tells t x);
-            run = run_after;
-          })
+      others_now : (seat : ℕ) → k.seats ≤ seat → put r.all t after_e seat ≡ first_entry k seat
+      others_now seat high =
+          let low = mine.low in
+          put_else r.all t seat after_e (λ (q : t ≡ seat). omega arith) ∙ r.others seat high
 
       home_pools : (one : D) → home ≡ Some one → Is one
-      home_pools = (run_keeps Is c keeps (first_is r.first r.is_first) r.run).home_has
+      home_pools = (run_keeps Is c keeps (first_is r.first r.is_first) run_here).home_has
 
       kept : (z : View D) × (a : Act (Option D)) × Valid s.homes me.1 a
           × Rule c k IsFirst words_now (home_of (homes_after s.homes me.1 a)) (slice_set s.views id z)
-          × Steps c k IsFirst Is j e l desk me f (z, carried_after me.1 a)
+          × Steps Is j e l desk me f (z, carried_after me.1 a)
       kept = (
         view_now,
         chosen.0,
@@ -293,20 +280,23 @@ module _ {D : Type 0} where
         record {
           first = r.first;
           is_first = r.is_first;
+          home = home_of (homes_after s.homes me.1 chosen.0);
+          lies = inl refl;
           all = put r.all t after_e;
           owner = r.owner;
           run = run_after;
+          others = others_now;
           tied = tied_after;
           noted = noted_now;
         },
-        record { home = home; view_is = refl; slots = chosen.3; is_pools = home_pools; whole = whole_after },
+        record { home = home; view_is = refl; slots = chosen.3; is_pools = home_pools },
       )
 
     module _ (slots id : ℕ) (me : Me (Option D) (View D)) (j : ℕ) (e : Entry D) (l : Local) (desk : Option D) (w : Word)
         (one : slots ≡ 1) (ready : Ready c j e l desk me) (word : word_of (course l) ≡ some w) where
       -- the same, as a step of a table asks it
       pub allowed : Allows rule_of slots id me (index_of k w) (becomes (course l))
-          (λ n. Steps c k IsFirst Is j e l desk me (taught (course l) n))
+          (λ n. Steps Is j e l desk me (taught (course l) n))
       allowed s r len at_view bounded =
           let q = kept id me j e l desk ready (word_is (course l) w word) s r (len ∙ one) at_view in (
             q.0,
@@ -314,13 +304,13 @@ module _ {D : Type 0} where
             q.2,
             subst (λ (ws : List ℕ). Rule c k IsFirst ws (home_of (homes_after s.homes me.1 q.1)) (slice_set s.views id q.0))
                 (sym (becomes_is k s.words (course l) w word)) q.3,
-            subst (λ (n : ℕ). Steps c k IsFirst Is j e l desk me n (q.0, carried_after me.1 q.1))
+            subst (λ (n : ℕ). Steps Is j e l desk me n (q.0, carried_after me.1 q.1))
                 (sym (found_is k s.words (course l) w word)) q.4,
           )
 
       -- at a word that is none: a load of any word, which learns 0
       pub allowed_blind : (i : ℕ) → words_of k ≤ index_of k w
-          → Allows rule_of slots id me i (λ n. n) (λ n. Steps c k IsFirst Is j e l desk me 0)
+          → Allows rule_of slots id me i (λ n. n) (λ n. Steps Is j e l desk me 0)
       allowed_blind i past s r len at_view bounded =
           let q = kept id me j e l desk ready (word_is (course l) w word) s r (len ∙ one) at_view in
           let sized = (run_stands r.run).sized in
@@ -330,6 +320,6 @@ module _ {D : Type 0} where
             q.2,
             subst (λ (ws : List ℕ). Rule c k IsFirst ws (home_of (homes_after s.homes me.1 q.1)) (slice_set s.views id q.0))
                 (void_leaves k s.words (course l) w word behind ∙ sym (set-get_or s.words i 0)) q.3,
-            subst (λ (n : ℕ). Steps c k IsFirst Is j e l desk me n (q.0, carried_after me.1 q.1))
+            subst (λ (n : ℕ). Steps Is j e l desk me n (q.0, carried_after me.1 q.1))
                 (void_finds k s.words (course l) w word behind) q.4,
           )

@@ -31,7 +31,7 @@ use Rattle.step_runs.proofs.CallerLemmas.{Has, Keeps}
 use Rattle.step_runs.proofs.CallerLemmas.{silence_keeps, desk_has, has_some}
 use Rattle.atomic_table.specs.Table.{Me, rest}
 use Rattle.atomic_driver.specs.declared.rule.View.{View}
-use Rattle.atomic_driver.specs.Steps.{word_of, noted_after, view_after, Carried, SlotOut, Ready, Steps, own_of}
+use Rattle.atomic_driver.specs.Steps.{word_of, view_after, Carried, SlotOut, Ready, Steps, own_of}
 use Rattle.atomic_driver.specs.Steps.{desk_at}
 use Rattle.atomic_driver.specs.Steps.{Driven, ActsOnWord, ActsElse, ActsBy, Acts, Taken}
 use Rattle.atomic_driver.proofs.Allowed.{word_is}
@@ -137,6 +137,7 @@ module _ {D : Type 0} where
     pub ready : (l : Local) (hand : Option D) (me : Me (Option D) (View D)) → Driven c k Is l hand me
         → Ready c 0 (own_of k me.0.entries) l (desk_at (carry_of l.at) hand me.1) me
     ready l hand me d = record {
+      unnoted = d.unnoted;
       there = ap (λ (es : List (Entry D)). get_elem? es 0) d.one;
       in_a_row = row;
       since = d.since;
@@ -148,9 +149,9 @@ module _ {D : Type 0} where
         row i x at = only (own_of k me.0.entries) i x
             (subst (λ (es : List (Entry D)). get_elem? es i ≡ some x) d.one at)
 
-    module _ (IsFirst : D → Type 0) (l : Local) (hand now : Option D) (w : Word) (me next : Me (Option D) (View D))
+    module _ (l : Local) (hand now : Option D) (w : Word) (me next : Me (Option D) (View D))
         (f : ℕ) (d : Driven c k Is l hand me) (word : word_of (course l) ≡ some w)
-        (s : Steps c k IsFirst Is 0 (own_of k me.0.entries) l (desk_at (carry_of l.at) hand me.1) me f next)
+        (s : Steps Is 0 (own_of k me.0.entries) l (desk_at (carry_of l.at) hand me.1) me f next)
         (passes : Passes c (gives_of l) hand now) where
       abbrev e : Entry D
       e = own_of k me.0.entries
@@ -192,7 +193,7 @@ module _ {D : Type 0} where
           (driven_by (learn l (seen_by (course l) f)).0
           (desk_at (carry_of (learn l (seen_by (course l) f)).0.at) now next.1) now (learnt e l s.home desk f) next
           entries_after
-          (ap (λ (v : View D). v.note) s.view_is ∙ ap (noted_after k (course l)) d.unnoted)
+          (ap (λ (v : View D). v.note) s.view_is)
           since
           (silence_keeps_desk since (has_step (carry_of l.at) _ (move_of l.at f) s.home desk onward d.has from))
           left.out refl

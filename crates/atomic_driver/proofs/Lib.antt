@@ -3,3 +3,4 @@ pub mod Allowed
 pub mod Driving
 pub mod Asked
 pub mod Seats
+pub mod CallerLemmas

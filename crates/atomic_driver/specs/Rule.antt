@@ -1,6 +1,6 @@
 -- The rule of the table: its words, the office's slot and the entries of all views are a state that a run comes to.
 -- It says nothing more of them.
-use Rattle.std.specs.Prelude.{◌≡◌, ℕ, zero, suc, ◌<◌, List, [], ◌∷◌, ◌++◌, Bool, false, Option, Some, None}
+use Rattle.std.specs.Prelude.{◌≡◌, ◌⊎◌, ℕ, zero, suc, ◌<◌, ◌≤◌, List, [], ◌∷◌, ◌++◌, Bool, false, Option, Some, None}
 use mathlib.Core.Option as maybe
 use mathlib.Core.Option.{some, none}
 use lib.ListN.{get_elem?}
@@ -14,6 +14,7 @@ use Rattle.step_runs.specs.Entries.{first_entry}
 use Rattle.step_runs.specs.Runs.{Callback, Run}
 use Rattle.step_runs.specs.Callbacks.{office_of}
 use Rattle.atomic_table.specs.Seated.{TableId}
+use Rattle.atomic_driver.specs.declared.rule.Note.{Note}
 use Rattle.atomic_driver.specs.declared.rule.Plan.{Plan}
 use Rattle.atomic_driver.specs.declared.rule.View.{View}
 
@@ -50,11 +51,6 @@ first_view k = plain (first_entries k 0 k.seats)
 abbrev pub first_view_of : {D : Type 0} → Plan → View D
 first_view_of plan = first_view (key_by plan)
 
--- a note has all words, and its view owns all seats
-pub record IsNoted (k : Key) (words : List ℕ) (owner : ℕ → ℕ) (id : ℕ) (note : List ℕ) : Type 0 where
-  pub words_are : words ≡ note
-  pub owns : (seat : ℕ) → seat < k.seats → owner seat ≡ id
-
 module _ {D : Type 0} where
   -- what lies in the one slot
   abbrev pub home_of : List (maybe.Option (Option D)) → Option D
@@ -73,21 +69,40 @@ module _ {D : Type 0} where
       (id : ℕ) (v : View D) (j : ℕ) (e : Entry D) → get_elem? views id ≡ some v → get_elem? v.entries j ≡ some e
       → IsTied k all owner id e
 
-  abbrev pub Noted : Key → List ℕ → (ℕ → ℕ) → List (View D) → Type 0
-  Noted k words owner views =
-      (id : ℕ) (v : View D) (note : List ℕ) → get_elem? views id ≡ some v → v.note ≡ Some note
-      → IsNoted k words owner id note
+  -- a note has all words and the office, and its view owns all seats
+  pub record IsNoted (k : Key) (words : List ℕ) (home : Option D) (owner : ℕ → ℕ) (id : ℕ) (note : Note D)
+      : Type 0 where
+    pub words_are : words ≡ note.words
+    pub office_is : home ≡ Some note.office
+    pub owns : (seat : ℕ) → seat < k.seats → owner seat ≡ id
 
-  -- `IsFirst` says what the office was like as the pool was made
-  pub record Rule (c : Callback D) (k : Key) (IsFirst : D → Type 0) (words : List ℕ) (home : Option D)
+  abbrev pub Noted : Key → List ℕ → Option D → (ℕ → ℕ) → List (View D) → Type 0
+  Noted k words home owner views =
+      (id : ℕ) (v : View D) (note : Note D) → get_elem? views id ≡ some v → v.note ≡ Some note
+      → IsNoted k words home owner id note
+
+  -- a view has a note
+  pub record HasNote (views : List (View D)) : Type 0 where
+    pub id : ℕ
+    pub view : View D
+    pub note : Note D
+    pub at : get_elem? views id ≡ some view
+    pub noted : view.note ≡ Some note
+
+  -- `IsFirst` says what the office was like as the pool was made; what lies at home is in the slot, but where the
+  -- place of a quiet pool has taken it out; no seat beyond the pool's has made a step
+  pub record Rule (c : Callback D) (k : Key) (IsFirst : D → Type 0) (words : List ℕ) (slot : Option D)
       (views : List (View D)) : Type 0 where
     pub first : D
     pub is_first : IsFirst first
+    pub home : Option D
+    pub lies : (slot ≡ home) ⊎ HasNote views
     pub all : ℕ → Entry D
     pub owner : ℕ → ℕ
     pub run : Run c k first words home all
+    pub others : (seat : ℕ) → k.seats ≤ seat → all seat ≡ first_entry k seat
     pub tied : Tied k all owner views
-    pub noted : Noted k words owner views
+    pub noted : Noted k words home owner views
 
 module _ {R : Type 0} (out : R → List Region) where
   -- the office of a pool that is made so, over a callback that had no region out

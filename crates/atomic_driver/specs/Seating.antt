@@ -32,11 +32,13 @@ IsFrom {D} seat entries = (i : ℕ) (e : Entry D) → get_elem? entries i ≡ so
 
 module _ {R : Type 0} (out : R → List Region) (faults : R → ℕ) (got : R → ℕ → Option Region → R → Type 0)
     (passed : R → Region → Bool → R → Type 0) where
-  -- a seat of the pool, at its table, with the place of its number
+  -- a new seat of the pool, at its table, with the place of its number: it has made no turn
   pub record IsSeat {raw : Ghosts R} (table : TableId) (plan : Plan) (seat : ℕ) (x : DriverSeat R raw) : Type 0 where
     pub same_table : x.place.table_id ≡ table
     pub same_plan : x.plan ≡ plan
     pub number : x.local.seat ≡ seat
+    pub fresh : x.local ≡ made (key_by plan) seat
+    pub first : own_of (key_by plan) x.place.me.0.entries ≡ first_entry (key_by plan) seat
     pub entry : (own_of (key_by plan) x.place.me.0.entries).seat ≡ seat
     pub driven : PoolDriven out faults got passed plan x.local x.office x.place.me
 
@@ -44,10 +46,21 @@ module _ {R : Type 0} (out : R → List Region) (faults : R → ℕ) (got : R �
   abbrev pub AreSeats : {raw : Ghosts R} → TableId → Plan → List (DriverSeat R raw) → Type 0
   AreSeats {raw} table plan xs = (i : ℕ) (x : DriverSeat R raw) → get_elem? xs i ≡ some x → IsSeat table plan i x
 
+  -- the same of a seat that has made turns: its place has the entry of its number
+  pub record IsOwn {raw : Ghosts R} (table : TableId) (plan : Plan) (seat : ℕ) (x : DriverSeat R raw) : Type 0 where
+    pub same_table : x.place.table_id ≡ table
+    pub same_plan : x.plan ≡ plan
+    pub entry : (own_of (key_by plan) x.place.me.0.entries).seat ≡ seat
+    pub driven : PoolDriven out faults got passed plan x.local x.office x.place.me
+
+  abbrev pub AreOwn : {raw : Ghosts R} → TableId → Plan → List (DriverSeat R raw) → Type 0
+  AreOwn {raw} table plan xs = (i : ℕ) (x : DriverSeat R raw) → get_elem? xs i ≡ some x → IsOwn table plan i x
+
   -- a pool whose places are all handed out
   pub record IsPool (s : Shared R) : Type 0 where
     pub same_plan : s.board.shared.key ≡ s.plan
     pub key_is : s.key ≡ key_by s.plan
+    pub some : 0 < (key_by s.plan).seats
     pub sizes : IsTable s.board.shared.table_id (key_by s.plan)
     pub same_table : s.spare.table_id ≡ s.board.shared.table_id
     pub spent : s.spare.me ≡ (plain [], [])
@@ -56,3 +69,8 @@ module _ {R : Type 0} (out : R → List Region) (faults : R → ℕ) (got : R �
   pub record HasSeats {raw : Ghosts R} (s : Shared R) (xs : List (DriverSeat R raw)) : Type 0 where
     pub count : length xs ≡ (key_by s.plan).seats
     pub each : AreSeats s.board.shared.table_id s.plan xs
+
+  -- the pool's seats, with the places of their numbers, whatever turns they have made
+  pub record HasOwn {raw : Ghosts R} (s : Shared R) (xs : List (DriverSeat R raw)) : Type 0 where
+    pub count : length xs ≡ (key_by s.plan).seats
+    pub each : AreOwn s.board.shared.table_id s.plan xs

@@ -1,6 +1,6 @@
 -- What one step tells a seat, and what is known of a seat between its turns.
-use Rattle.std.specs.Prelude.{◌≡◌, ℕ, ◌+◌, ◌%◌, ◌^◌, ◌<◌, Bool, true, false, eqb, List, [], ◌∷◌, length, Option, Some}
-use Rattle.std.specs.Prelude.{None, Result, slice_index, slice_set}
+use Rattle.std.specs.Prelude.{◌≡◌, ℕ, ◌+◌, ◌%◌, ◌^◌, Bool, true, false, not, eqb, List, [], ◌∷◌, Option, Some, None}
+use Rattle.std.specs.Prelude.{Result, slice_set}
 use mathlib.Core.Option as maybe
 use mathlib.Core.Option.{some, none}
 use prog.Atomic.{either}
@@ -15,16 +15,16 @@ use Rattle.pool_types.specs.declared.policy.RegionRec.{RegionRec}
 use Rattle.regions.specs.declared.errors.ObtainError.{ObtainError}
 use Rattle.pool_words.specs.declared.actions.OfficeJob.{OfficeJob}
 use Rattle.pool_words.specs.declared.actions.Seen.{Seen}
-use Rattle.pool_words.specs.Actions.{after_action}
 use Rattle.step_local.specs.declared.frames.Local.{Local}
 use Rattle.step_local.specs.declared.frames.OfficeFor.{OfficeFor}
 use Rattle.step_local.specs.Course.{course}
+use Rattle.step_local.specs.Getting.{is_idle}
 use Rattle.step_local.specs.Learn.{learn}
 use Rattle.step_runs.specs.declared.entry.Entry.{Entry}
 use Rattle.step_runs.specs.Places.{has_word, Carry, away, in_slot, in_hand, carry_of, HasDesk, Move, stays, takes}
 use Rattle.step_runs.specs.Places.{gives, move_of}
 use Rattle.step_runs.specs.Entries.{seen_by, learnt, first_entry}
-use Rattle.step_runs.specs.Runs.{Callback, Silent, Run, seen_answer}
+use Rattle.step_runs.specs.Runs.{Callback, Silent, seen_answer}
 use Rattle.atomic_table.specs.Table.{Me}
 use Rattle.regions.specs.Offices.{Desk}
 use Rattle.pool_types.specs.declared.values.Region.{Region}
@@ -32,7 +32,7 @@ use Rattle.step_runs.specs.Callbacks.{office_of}
 use Rattle.step_runs.specs.Laws.{IsOf}
 use Rattle.atomic_driver.specs.declared.rule.Plan.{Plan}
 use Rattle.atomic_driver.specs.declared.rule.View.{View}
-use Rattle.atomic_driver.specs.Rule.{key_by, IsMade}
+use Rattle.atomic_driver.specs.Rule.{key_by, plain}
 
 -- the word of an action, and what becomes of it
 abbrev pub word_of : Action → maybe.Option Word
@@ -66,18 +66,10 @@ taught (TakeOffice job) n = n
 taught GiveOffice n = n
 taught Nothing n = n
 
--- the note after an action
-abbrev pub noted_after : Key → Action → Option (List ℕ) → Option (List ℕ)
-noted_after k action None = None
-noted_after k action (Some words) = Some (after_action k words action)
-
 module _ {D : Type 0} where
   -- the view after the seat of its entry j, whose local and desk came to these, found f where the other lay at home
-  abbrev pub view_after : Key → View D → ℕ → Entry D → Local → Option D → Option D → ℕ → View D
-  view_after k v j e l home desk f = record {
-    entries = slice_set v.entries j (learnt e l home desk f);
-    note = noted_after k (course l) v.note;
-  }
+  abbrev pub view_after : View D → ℕ → Entry D → Local → Option D → Option D → ℕ → View D
+  view_after v j e l home desk f = plain (slice_set v.entries j (learnt e l home desk f))
 
   -- the slots that the seat has out after its step
   abbrev pub Carried : Move → Option D → List (ℕ × Option D) → List (ℕ × Option D) → Type 0
@@ -98,55 +90,24 @@ module _ {D : Type 0} where
   -- what is known before the step of a view's entry j, where the seat's local and desk came to these
   pub record Ready (c : Callback D) (j : ℕ) (e : Entry D) (l : Local) (desk : Option D) (me : Me (Option D) (View D))
       : Type 0 where
+    pub unnoted : me.0.note ≡ None
     pub there : get_elem? me.0.entries j ≡ some e
     pub in_a_row : InARow j e me.0.entries
     pub since : Silent c e.local e.desk l desk
     pub has : HasDesk (carry_of l.at) desk
     pub hands : SlotOut (carry_of l.at) desk me.1
 
-  -- the entries are those of all seats, from 0 on
-  pub record IsAll (k : Key) (entries : List (Entry D)) : Type 0 where
-    pub count : length entries ≡ k.seats
-    pub each : (i : ℕ) (e : Entry D) → get_elem? entries i ≡ some e → e.seat ≡ i
-
-  -- the words and the entries of all seats are a state that a run comes to
-  pub record Whole (c : Callback D) (k : Key) (IsFirst : D → Type 0) (words : List ℕ) (entries : List (Entry D))
-      : Type 0 where
-    pub first : D
-    pub is_first : IsFirst first
-    pub home : Option D
-    pub all : ℕ → Entry D
-    pub each : (seat : ℕ) → seat < k.seats → get_elem? entries seat ≡ some (all seat)
-    pub run : Run c k first words home all
-
   -- what the step tells that found f: the view's entry has learnt it, and no other changes
-  pub record Steps (c : Callback D) (k : Key) (IsFirst Is : D → Type 0) (j : ℕ) (e : Entry D) (l : Local)
-      (desk : Option D)
+  pub record Steps (Is : D → Type 0) (j : ℕ) (e : Entry D) (l : Local) (desk : Option D)
       (me : Me (Option D) (View D)) (f : ℕ) (now : Me (Option D) (View D)) : Type 0 where
     pub home : Option D
-    pub view_is : now.0 ≡ view_after k me.0 j e l home desk f
+    pub view_is : now.0 ≡ view_after me.0 j e l home desk f
     pub slots : Carried (move_of l.at f) home me.1 now.1
     pub is_pools : (one : D) → home ≡ Some one → Is one
-    pub whole : (note : List ℕ) → me.0.note ≡ Some note → IsAll k me.0.entries
-        → Whole c k IsFirst (after_action k note (course l)) now.0.entries
 
--- a view of these entries that notes these words
-abbrev pub noting : {D : Type 0} → List (Entry D) → List ℕ → View D
-noting entries words = record { entries = entries; note = Some words }
-
-module _ {D : Type 0} where
-  -- what the load tells with which the place of a quiet pool notes all words
-  pub record Notes (c : Callback D) (k : Key) (IsFirst : D → Type 0) (me : Me (Option D) (View D)) (found : ℕ)
-      (now : Me (Option D) (View D)) : Type 0 where
-    pub words : List ℕ
-    pub view_is : now.0 ≡ noting me.0.entries words
-    pub slots : now.1 ≡ me.1
-    pub whole : Whole c k IsFirst words me.0.entries
-
-  -- what any other load of a quiet pool tells
-  pub record Reads (i : ℕ) (me : Me (Option D) (View D)) (value : ℕ) (now : Me (Option D) (View D)) : Type 0 where
-    pub same : now ≡ me
-    pub found : (note : List ℕ) → me.0.note ≡ Some note → value ≡ slice_index note i
+-- a call of the local is begun and has no answer yet
+abbrev pub is_in_call : Local → Bool
+is_in_call l = not (is_idle l.at)
 
 -- what a seat's only entry is
 abbrev pub own_of : {D : Type 0} → Key → List (Entry D) → Entry D
@@ -204,8 +165,7 @@ module _ {R : Type 0} (out : R → List Region) (faults : R → ℕ) (got : R �
 
   abbrev pub PoolSteps : Plan → ℕ → Entry (Desk R) → Local → Option (Desk R) → Me (Option (Desk R)) (View (Desk R)) → ℕ
       → Me (Option (Desk R)) (View (Desk R)) → Type 0
-  PoolSteps plan = Steps (office_of out faults got passed (key_by plan)) (key_by plan) (IsMade out plan)
-      (IsOf plan.policy plan.limits)
+  PoolSteps plan = Steps (IsOf plan.policy plan.limits)
 
   abbrev pub PoolDriven : Plan → Local → Option (Desk R) → Me (Option (Desk R)) (View (Desk R)) → Type 0
   PoolDriven plan = Driven (office_of out faults got passed (key_by plan)) (key_by plan) (IsOf plan.policy plan.limits)

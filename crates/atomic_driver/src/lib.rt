@@ -11,6 +11,6 @@ mod seat;
 mod steps;
 
 pub use pool::Shared;
-pub use rule::{Plan, Ruled, View};
+pub use rule::{Note, Plan, Ruled, View};
 pub use seat::DriverSeat;
-pub use steps::Turning;
+pub use steps::{Place, Slot, Top, Turning};

@@ -97,6 +97,7 @@ fn split_off<R: Raw>(
     requires key { key.now ≡ key_by plan.now }
     requires first { own_of (key_by plan.now) spare.old.me.0.entries ≡ first_entry (key_by plan.now) local.seat }
     requires some { 0 < length spare.old.me.0.entries }
+    requires unnoted { spare.old.me.0.note ≡ None }
     requires row { IsFrom local.seat spare.old.me.0.entries }
     requires local { local ≡ made (key_by plan.now) local.seat }
     ensures spare { (spare.new.table_id ≡ spare.old.table_id) × (spare.new.id ≡ spare.old.id)
@@ -139,7 +140,7 @@ fn hand_out<R: Raw>(
 }
 
 impl<R: Raw> Shared<R> {
-    ghost use Rattle.atomic_driver.specs.Seating.{IsPool, HasSeats};
+    ghost use Rattle.atomic_driver.specs.Seating.{IsPool, HasSeats, HasOwn};
 
     /// A pool, and its seats, each at its number. No region is obtained yet. The refusals are those of `check`, in its
     /// order, and then a want of memory.
@@ -153,6 +154,7 @@ impl<R: Raw> Shared<R> {
         ensures plan { IfOk result (λ made. (made.0.plan.policy ≡ policy) × (made.0.plan.limits ≡ limits)) }
         ensures pool { IfOk result (λ made. IsPool R.out R.faults R.got R.passed made.0) }
         ensures seats { IfOk result (λ made. HasSeats R.out R.faults R.got R.passed made.0 made.1.items) }
+        ensures owned { IfOk result (λ made. HasOwn R.out R.faults R.got R.passed made.0 made.1.items) }
         ensures allowed { IfOk result (λ made. IsAllowed policy limits) }
         ensures refused { IfErr result (IsUnmade policy limits) }
     {

@@ -13,11 +13,18 @@ pub struct Plan {
     pub limits: Limits,
 }
 
-/// What a seat of the table knows: the entries of the pool's seats that it owns, and of a quiet pool the value of each
-/// word. No value of it is made.
+/// What is known of a quiet pool: the value of each word, and the office, which its place has taken out of its slot. No
+/// value of it is made.
+pub struct Note<D> {
+    pub words: LinkedList<u64>,
+    pub office: D,
+}
+
+/// What a seat of the table knows: the entries of the pool's seats that it owns, and the note of a quiet pool. No value
+/// of it is made.
 pub struct View<D> {
     pub entries: LinkedList<Entry<D>>,
-    pub note: Option<LinkedList<u64>>,
+    pub note: Option<Note<D>>,
 }
 
 /// The rule: the words, the office's slot and the entries of all views are a state that the pool's runs come to.

@@ -10,7 +10,7 @@ ghost use Rattle.step_runs.specs.Callbacks.{office_of};
 ghost use Rattle.step_runs.specs.Places.{given_by, gives_in, gives_at, gives_of};
 ghost use Rattle.step_runs.specs.Runs.{Passes};
 ghost use Rattle.atomic_driver.specs.Rule.{IsTable, key_by};
-ghost use Rattle.atomic_driver.specs.Steps.{Acts, own_of, word_of, PoolDriven, Taken, given_first};
+ghost use Rattle.atomic_driver.specs.Steps.{Acts, own_of, word_of, is_in_call, PoolDriven, Taken, given_first};
 
 use crate::rule::Plan;
 use crate::steps::{Place, Top, step};
@@ -114,6 +114,13 @@ impl<R: Raw> DriverSeat<R> {
         ensures { result ≡ self.now.local.seat }
     {
         self.local.seat
+    }
+
+    /// Whether a call is begun and not done.
+    pub fn in_call(&self) -> bool
+        ensures { result ≡ is_in_call self.now.local }
+    {
+        !matches!(self.local.at, At::Idle)
     }
 
     /// Begins a call, with no step. It is refused exactly where one is begun and not done.

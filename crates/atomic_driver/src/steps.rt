@@ -15,13 +15,13 @@ use std::marker::{Brand, PhantomData};
 use step_local::Local;
 
 /// What lies in the one slot: the office, where no seat has it in hand.
-pub(crate) type Slot<R> = Option<Office<R>>;
+pub type Slot<R> = Option<Office<R>>;
 
 /// The table's words and its slot.
-pub(crate) type Top<R> = Shared<Slot<R>, View<Office<R>>, Plan, Ruled>;
+pub type Top<R> = Shared<Slot<R>, View<Office<R>>, Plan, Ruled>;
 
 /// A place at the table, for one seat or for several.
-pub(crate) type Place<R> = Seat<Slot<R>, View<Office<R>>>;
+pub type Place<R> = Seat<Slot<R>, View<Office<R>>>;
 
 /// What one step is told beside the table: the entry as whose step it is made, the local and the office that the seat
 /// has by now, which may be ahead of its entry.

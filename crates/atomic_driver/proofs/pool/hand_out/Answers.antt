@@ -32,6 +32,9 @@ split_off-requires-clause-row g c =
     let seat_is = ap (λ (x : Local). x.seat) c.in_ok-local.ensures in
     subst (λ n. IsFrom n c.loop-seat.spare.me.0.entries) (sym seat_is) q.row
 
+pub split_off-requires-clause-unnoted : goal.split_off-requires-clause-unnoted
+split_off-requires-clause-unnoted g c = ap (λ z. z.0.note) c.loop-seat.invariant.me
+
 pub loop-seat-preserved : goal.loop-seat-preserved
 loop-seat-preserved g c =
     let v = c.loop-seat.invariant in

@@ -28,7 +28,7 @@ split_seat-place-requires g c =
       subst (λ (z : Plan). Splits (rule_by g.R.Raw.out g.R.Raw.faults g.R.Raw.got g.R.Raw.passed z) c.args.spare.now.id v
           (plain (others_of v.entries)) (plain (own_of (key_by no_plan) v.entries ∷ []))) (sym t.table.1)
           (splits_view (office_of g.R.Raw.out g.R.Raw.faults g.R.Raw.got g.R.Raw.passed k) k
-          (IsMade g.R.Raw.out c.args.plan.now) (key_by no_plan) c.args.spare.now.id c.args.local.seat v t.row t.some),
+          (IsMade g.R.Raw.out c.args.plan.now) (key_by no_plan) c.args.spare.now.id c.args.local.seat v t.unnoted t.row t.some),
     )
 
 pub returns-clause-seat : goal.returns-clause-seat
@@ -45,6 +45,8 @@ returns-clause-seat g c =
       same_table = q.3;
       same_plan = refl;
       number = refl;
+      fresh = t.local;
+      first = ap (own_of k) entries;
       entry = ap (λ z. (own_of k z).seat) entries;
       driven = subst (λ z. PoolDriven g.R.Raw.out g.R.Raw.faults g.R.Raw.got g.R.Raw.passed plan z None me) (sym t.local)
           (driven_by (office_of _ _ _ _ k) k (IsOf plan.policy plan.limits)

@@ -1,6 +1,7 @@
 use Rattle.std.proofs.Common.{ap, subst, ◌∙◌}
 use Rattle.pool_words.specs.declared.words.Key.{Key}
 use Rattle.atomic_driver.specs.Seating.{AreSeats}
+use Rattle.atomic_driver.proofs.Seats.{own_seats}
 use Rattle.atomic_driver.proofs.pool.Shared.make.Goals as goal
 
 pub returns-clause-seats : goal.returns-clause-seats
@@ -12,3 +13,7 @@ returns-clause-seats g c =
           (record { policy = c.args.policy; limits = c.args.limits }) c.in-Ok-hand_out.seats.items)
           c.in-Ok.ensures.table.0 out.seats;
     }
+
+pub returns-clause-owned : goal.returns-clause-owned
+returns-clause-owned g c =
+    own_seats g.R.Raw.out g.R.Raw.faults g.R.Raw.got g.R.Raw.passed _ _ (returns-clause-seats g c)

@@ -6,7 +6,6 @@ use Rattle.atomic_driver.specs.Rule.{key_by}
 use Rattle.step_local.specs.Learn.{learn}
 use Rattle.step_runs.specs.Places.{gives_of}
 use Rattle.step_runs.specs.Runs.{Passes}
-use Rattle.atomic_driver.specs.Rule.{IsMade}
 use Rattle.atomic_driver.specs.Steps.{Acts, own_of}
 use Rattle.atomic_driver.proofs.Driving.{ready, drives, acts}
 use Rattle.atomic_driver.proofs.seat.DriverSeat.steps.Goals as goal
@@ -29,7 +28,7 @@ returns-clause-driven g c =
     drives (office_of _ _ _ _ (key_by old.plan)) (key_by old.plan)
     (IsOf old.plan.policy old.plan.limits)
     (office_keeps _ _ _ _ old.plan.policy old.plan.limits (key_by old.plan))
-    (IsMade g.R.Raw.out old.plan) old.local old.office c.passes.new.office c.args.word old.place.me _ told.0
+    old.local old.office c.passes.new.office c.args.word old.place.me _ told.0
     c.requires.driven c.requires.word told.2 passed _ _ (c.told.ensures ∙ ap (learn old.local) told.1)
 
 pub returns-clause-row : goal.returns-clause-row
@@ -44,5 +43,5 @@ returns-clause-row g c =
     (acts (office_of _ _ _ _ (key_by old.plan)) (key_by old.plan)
     (IsOf old.plan.policy old.plan.limits)
     (office_keeps _ _ _ _ old.plan.policy old.plan.limits (key_by old.plan))
-    (IsMade g.R.Raw.out old.plan) old.local old.office c.passes.new.office c.args.word old.place.me _ told.0
+    old.local old.office c.passes.new.office c.args.word old.place.me _ told.0
     c.requires.driven c.requires.word told.2 passed _ _ (c.told.ensures ∙ ap (learn old.local) told.1))
