@@ -1,0 +1,4 @@
+//! What every turn of a call keeps.
+#![tactic(auto)]
+
+pub mod laws;
