@@ -24,3 +24,8 @@ def run(tool: str, *words: str | Path, text: str | None = None) -> Ran:
 
 def data(name: str) -> bytes:
     return (DATA / name).read_bytes()
+
+
+def reports_of_traces(folder: Path) -> list[Path]:
+    """The reports that a trace stands beside: those of generated traces have none."""
+    return [path for path in sorted(folder.glob("*.report")) if path.with_suffix(".trace").exists()]

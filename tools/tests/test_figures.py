@@ -10,7 +10,7 @@ from kemirona.figures_text import as_json, as_text, call_text
 from kemirona.report_text import Answer, Move, read_report
 from kemirona.trace_text import Kind, read_trace
 
-from .support import DATA, EXAMPLES, TOOLS, data, run
+from .support import DATA, EXAMPLES, TOOLS, data, reports_of_traces, run
 
 
 def figures(name: str) -> Figures:
@@ -117,7 +117,7 @@ freed by a stranger: 0 of 0 (-)
         self.assertIsNone(json.loads(plain.out)["moves"])
 
     def test_every_example_has_figures(self):
-        for path in sorted(EXAMPLES.glob("*.report")):
+        for path in reports_of_traces(EXAMPLES):
             if not path.read_bytes().startswith(b"bad trace"):
                 trace = read_trace(path.with_suffix(".trace").read_bytes())
                 self.assertIn("calls by thread", as_text(figures_of(trace, read_report(path.read_bytes()))))

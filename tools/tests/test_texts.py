@@ -8,14 +8,14 @@ from kemirona.report_text import Answer, KeeperMove, Move, RegionEnd, read_repor
 from kemirona.trace_text import Act, Kind, read_trace
 from kemirona.words import Grant, Place
 
-from .support import DATA, EXAMPLES, data
+from .support import DATA, EXAMPLES, data, reports_of_traces
 
 NOT_SERVED = "12"  # the kind of lines that are well spelled
 
 
 class Examples(unittest.TestCase):
     def test_what_the_program_refuses_is_refused_at_the_same_line(self):
-        for path in sorted(EXAMPLES.glob("*.report")):
+        for path in reports_of_traces(EXAMPLES):
             found = re.fullmatch(rb"bad trace line (\d+) kind (\d+)\n", path.read_bytes())
             trace = path.with_suffix(".trace").read_bytes()
             with self.subTest(path.name):
@@ -27,8 +27,7 @@ class Examples(unittest.TestCase):
                     read_trace(trace)
 
     def test_every_report_is_read_and_answers_its_trace(self):
-        paths = [path for folder in (EXAMPLES, DATA) for path in sorted(folder.glob("*.report"))]
-        for path in paths:
+        for path in reports_of_traces(EXAMPLES) + reports_of_traces(DATA):
             if path.read_bytes().startswith(b"bad trace"):
                 continue
             with self.subTest(path.name):
