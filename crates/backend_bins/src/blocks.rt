@@ -6,7 +6,7 @@ ghost use Rattle.backend_bins.specs.Blocks.{block_end, bin_of, last_bin, first_s
 
 use pool_types::geometry::BIN_COUNT;
 
-/// So many granules from a first one on.
+/// So many granules from a first one on: a free block, or one in hand.
 #[derive(Clone, Copy)]
 pub struct Block {
     pub first: u64,

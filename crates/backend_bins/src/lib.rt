@@ -1,11 +1,8 @@
-//! The backend's bins of free blocks: putting a block into one, taking one out, the scan for a block that fits, and
-//! the
+//! The backend's bins of free blocks: putting a block into one, taking one out, the scan for a block that fits, and the
 //! cut of a piece from it.
 //!
-//! It follows oneTBB's `src/tbbmalloc/backend.cpp` (`Bin`, `IndexedBins::findBlock`, `Backend::splitBlock`). That a
-//! bin
-//! has blocks of one length, that the scan looks at the bins in order and notes what it could not win, and the order
-//! of
+//! It follows oneTBB's `src/tbbmalloc/backend.cpp` (`Bin`, `IndexedBins::findBlock`, `Backend::splitBlock`). That a bin
+//! has blocks of one length, that the scan looks at the bins in order and notes what it could not win, and the order of
 //! all stores are this project's own.
 #![tactic(auto)]
 

@@ -43,9 +43,8 @@ pub enum ScanStep {
     Unlock { took: Option<Block> },
 }
 
-/// A scan: the bin that it is at, the lowest bin in which it noted a block that another was taking or joining, how
-/// many
-/// blocks it saw, and its next step.
+/// A scan (a probe of the free lists): the bin that it is at, the lowest bin in which it noted a block that another was
+/// taking or joining, how many blocks it saw, and its next step.
 #[derive(Clone, Copy)]
 pub struct ScanAt {
     pub bin: u64,

@@ -61,9 +61,8 @@ fn half(block: Block) -> WinCall {
     }
 }
 
-/// A scan passes a block that another seat has half won, and takes the one behind it. Where no other is left, it
-/// waits, and
-/// takes the block once its guard was given back. What it took is in no list.
+/// A scan passes a block that another seat has half won, and takes the one behind it. Where no other is left, it waits,
+/// and takes the block once its guard was given back. What it took is in no list.
 #[test]
 fn scans_pass_half_won_blocks(rt: HostRuntime) -> Result<(), Fail> {
     let mut words = vec![in rt.alloc(); 0; KEY.words()]?;
@@ -115,8 +114,7 @@ fn scans_pass_half_won_blocks(rt: HostRuntime) -> Result<(), Fail> {
 }
 
 /// A slab is cut from a block that begins at an odd granule. Both rests are in their bins, and stale guards within the
-/// block
-/// are gone.
+/// block are gone.
 #[test]
 fn slabs_are_cut_at_even_granules(rt: HostRuntime) -> Result<(), Fail> {
     let mut words = vec![in rt.alloc(); Guard::Free(9).word(); KEY.words()]?;

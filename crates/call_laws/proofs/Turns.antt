@@ -9,15 +9,15 @@ use Rattle.region_steps.specs.declared.office.OfficeAt.{OfficeAt}
 use Rattle.region_steps.specs.declared.office.OfficeNext.{OfficeNext}
 use Rattle.step_local.specs.Backend.{office_as, office_call}
 use Rattle.step_local.specs.Course.{course_at}
-use Rattle.step_local.specs.Learn.{learn, learn_at}
+use Rattle.step_local.specs.Learn.{learn_at}
 use Rattle.step_local.specs.declared.frames.At.{At}
 use Rattle.step_local.specs.declared.frames.Local.{Local}
 use Rattle.step_local.specs.declared.frames.OfficeFor.{OfficeFor}
 use Rattle.word_codes.specs.Links.{link_of}
-use Rattle.call_laws.specs.Calls.{IsCalling, IsKept, TurnsKeepCalls, CallsBegin, AnswersAlone, is_resetting}
-use Rattle.call_laws.specs.Calls.{is_reset_at, is_ready, is_outside}
+use Rattle.call_laws.specs.Calls.{IsCalling, IsKept, TurnsKeepCalls, CallsBegin, AnswersAlone}
+use Rattle.call_laws.specs.Calls.{is_reset_at, is_ready}
 use Rattle.step_runs.specs.Places.{has_word}
-use Rattle.step_runs.proofs.Elsewhere.{is_calling, else_at}
+use Rattle.step_runs.proofs.CallerLemmas.{else_at}
 use Rattle.call_laws.proofs.Begun.{kept_begun}
 use Rattle.call_laws.proofs.Small.{kept-box_learn_of, kept-adopt_learn_of, kept-join_learn_of}
 use Rattle.call_laws.proofs.Small.{kept-spare_learn_of, kept-leave_learn_of, kept-small_learn}

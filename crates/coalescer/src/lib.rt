@@ -2,9 +2,8 @@
 //! finish.
 //!
 //! It follows oneTBB's `src/tbbmalloc/backend.cpp` (`Backend::doCoalesc`, `CoalRequestQ`,
-//! `Backend::coalescAndPutList`).
-//! That a put waits for no neighbour, looks a second time at a region's ends, and the order of all steps are this
-//! project's own.
+//! `Backend::coalescAndPutList`). That a put waits for no neighbour, looks a second time at a region's ends, and the
+//! order of all steps are this project's own.
 #![tactic(auto)]
 
 pub mod drain;

@@ -65,7 +65,7 @@ pub enum PutStep {
     Bin(BinAt),
 }
 
-/// A put: the block in hand, with what was joined to it, what was found beside it, and the next step.
+/// A put: the block in hand, with what was joined to it (coalesced), what was found beside it, and the next step.
 #[derive(Clone, Copy)]
 pub struct PutAt {
     pub block: Block,

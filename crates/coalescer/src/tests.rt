@@ -69,11 +69,9 @@ fn drain(words: &mut [u64], call: DrainCall) -> DrainNext {
 }
 
 /// A region of the granules 1 to 12 has a block of 4 granules in hand between two free ones. Another seat has won the
-/// far
-/// guard of the right one: the put joins the left one, loses the right one, gives its guard back, and queues what it
-/// has.
-/// The other seat gives back too; the drain joins the whole region, and gives it away where the pool gives regions
-/// back.
+/// far guard of the right one: the put joins the left one, loses the right one, gives its guard back, and queues what
+/// it has. The other seat gives back too; the drain joins the whole region, and gives it away where the pool gives
+/// regions back.
 #[test]
 fn neighbours_are_won_or_given_back(rt: HostRuntime) -> Result<(), Fail> {
     for gives in [true, false] {
@@ -119,8 +117,7 @@ fn neighbours_are_won_or_given_back(rt: HostRuntime) -> Result<(), Fail> {
 }
 
 /// A put waits for the lock of a neighbour's bin, which it has won. A whole region without neighbours is given back at
-/// once,
-/// and a block beside one in use goes into its bin.
+/// once, and a block beside one in use goes into its bin.
 #[test]
 fn puts_wait_for_locks_and_see_walls(rt: HostRuntime) -> Result<(), Fail> {
     let mut words = vec![in rt.alloc(); 0; KEY.words()]?;

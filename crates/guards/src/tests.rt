@@ -41,8 +41,7 @@ fn guards(words: &[u64]) -> (u64, u64) {
 }
 
 /// One seat wins the block for use from its begin on, and another to join it from its end on. The first one loses and
-/// gives
-/// back, and then the second one has both guards; or both lose, and the block is free again.
+/// gives back, and then the second one has both guards; or both lose, and the block is free again.
 #[test]
 fn one_seat_wins_both_guards(rt: HostRuntime) -> Result<(), Fail> {
     let mut words = vec![in rt.alloc(); 0; KEY.words()]?;

@@ -14,7 +14,7 @@ pub const LOW_MARK: u64 = 8;
 /// The most cached slabs of which none has to go.
 pub const HIGH_MARK: u64 = 32;
 
-/// The first granules of cached slabs. Contracts see them, the oldest first, and how many there may be.
+/// A cache of empty slabs, by their first granules. Contracts see them, the oldest first, and how many there may be.
 #[derive(Drop)]
 pub struct SlabCache {
     ring: HeapCircularBuffer<u64>,

@@ -9,7 +9,7 @@ use crate::roll::Roll;
 use crate::slabs::{Slabs, Wanted};
 use std::alloc::{AllocError, Global};
 
-/// What a heap keeps.
+/// What a heap (a thread heap, or thread cache) keeps.
 #[derive(Drop)]
 pub struct Heap {
     /// The slabs that it keeps.

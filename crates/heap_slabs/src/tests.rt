@@ -4,8 +4,7 @@ use std::test::Fail;
 /// The class of objects of 8128 bytes, of which a slab has two.
 const PAIRS: u8 = 25;
 
-/// A slab's objects are taken from its end and come back newest first; what others gave back is joined at once; and
-/// the
+/// A slab's objects are taken from its end and come back newest first; what others gave back is joined at once; and the
 /// header tells the record.
 #[test]
 fn slabs_give_and_take_back(rt: HostRuntime) {

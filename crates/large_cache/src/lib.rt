@@ -1,5 +1,5 @@
-//! The cache of large blocks over words: one cache bin for blocks of so many granules, from 1 to 1023, as lists and
-//! numbers under a lock.
+//! The cache of large blocks (a cache of freed large objects) over words: one cache bin for blocks of so many granules,
+//! from 1 to 1023, as lists and numbers under a lock.
 //!
 //! The rules are those of a bin of oneTBB's large object cache (`src/tbbmalloc/large_objects.cpp`); `cache_ages` says
 //! them of plain numbers, and its arithmetic is called here. That a bin is changed word by word under a lock, in this

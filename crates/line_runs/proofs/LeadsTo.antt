@@ -1,5 +1,5 @@
 -- Turns that were made lead on to what the later ones come to.
-use Rattle.std.proofs.Common.{◌≡◌, ℕ, zero, suc, refl, Bool, true, false, subst, sym}
+use Rattle.std.proofs.Common.{◌≡◌, ℕ, suc, refl, Bool, true, false, subst, sym}
 use Rattle.std.specs.Prelude.{Option, Some, None}
 use Rattle.pool_types.specs.Script.{Script, Gets, Puts}
 use Rattle.pool_types.specs.declared.values.Turn.{Turn}
@@ -61,9 +61,6 @@ goes_on turns left until seat first old middle start book written turn made why 
 pub record ResetLeads (turns : ℕ) (first : Machine Script) (book : Book) (left : ℕ) (now : Machine Script) (so_far : Book)
     : Type 0 where
   pub leads : (new : Machine Script) (last : Book) → ResetsOn left now so_far new last → ResetsOn turns first book new last
-
-pub reset_begins : (turns : ℕ) (m : Machine Script) (book : Book) → ResetLeads turns m book turns m book
-reset_begins turns m book = record { leads = λ new last h. h }
 
 one_reset_turn : (left : ℕ) (old middle : Machine Script) (book : Book) (done : Bool) (new : Machine Script) (last : Book) →
     ResetTurns out_of faults_of Gets Puts old done middle →

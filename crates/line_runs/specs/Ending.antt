@@ -37,7 +37,9 @@ Destroys line number old book left last = DestroysBy (held_back old.machine) lin
 
 -- each number of a cache bin is 0, and no item lies in it
 abbrev pub is_fresh : CacheNumbers → Bool
-is_fresh bin = eqb bin.used 0 && (eqb bin.mean 0 && (eqb bin.threshold 0 && (eqb bin.get 0 && (eqb bin.cleaned 0 && eqb (length bin.ages.items) 0))))
+is_fresh bin = eqb bin.used 0
+    && (eqb bin.mean 0
+    && (eqb bin.threshold 0 && (eqb bin.get 0 && (eqb bin.cleaned 0 && eqb (length bin.ages.items) 0))))
 
 abbrev pub bin_numbers : ℕ → CacheNumbers → BinNumbers
 bin_numbers granules bin = record {

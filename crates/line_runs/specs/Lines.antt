@@ -34,7 +34,8 @@ Spends Until.Answer line names book came new last = (came ≡ Came.OutOfTurns) �
 -- the call of a line was answered
 abbrev pub IsAnswered : TraceCall → ℕ → Answer → Names → Book → Came → Names → Book → Type 0
 IsAnswered call line answer names book came new last =
-    (came ≡ Came.InTime) × NamesAfter names call answer new × (last ≡ noted (counted book answer) (entry.Answered line answer))
+    (came ≡ Came.InTime) × NamesAfter names call answer new
+    × (last ≡ noted (counted book answer) (entry.Answered line answer))
 
 -- what a line comes to whose turns stop so, where this is the seat's call
 abbrev pub Stops : Until → ℕ → TraceCall → Stop → Names → Book → Came → Names → Book → Type 0

@@ -46,14 +46,6 @@ unfolding sum_below
 sum_below-span start bytes zero = omega arith
 sum_below-span start bytes (suc n) = let rest = sum_below-span start bytes n in grind (arith, nat_tests, rest)
 
-pub sum_below-le : (f g : ℕ → ℕ) (n : ℕ) → ((k : ℕ) → k < n → f k ≤ g k) → sum_below f n ≤ sum_below g n
-unfolding sum_below
-sum_below-le f g zero le = omega arith
-sum_below-le f g (suc n) le =
-    let rest : sum_below f n ≤ sum_below g n = sum_below-le f g n (λ k below. le k (omega arith)) in
-    let last : f n ≤ g n = le n (omega arith) in
-    omega (arith, rest, last)
-
 -- functions that agree on the members have one sum
 pub sum_by-same : {X : Type 0} (f g : X → ℕ) (xs : List X) → ((x : X) → Contains xs x → f x ≡ g x) → sum_by f xs ≡ sum_by g xs
 sum_by-same f g [] same = refl

@@ -41,9 +41,8 @@ pub fn other_lists_stand()
     ensures { OtherListsStand }
 {}
 
-/// Between taking a list's lock and freeing it the list gets one item more at its head, or has one less, and else
-/// is as it
-/// was.
+/// Between taking a list's lock and freeing it the list gets one item more at its head, or has one less, and else is as
+/// it was.
 pub fn between_locks_one_item()
     ensures { BetweenLocksOneItem }
 {}

@@ -1,8 +1,7 @@
 //! Locks in single words, and lists under them that are linked both ways.
 //!
 //! Each job is a position, and what its step found leads to the next one. They follow oneTBB's
-//! `src/tbbmalloc/Synchronize.h` (`MallocMutex`) and `src/tbbmalloc/backend.cpp` (`Bin::addBlock`,
-//! `Bin::removeBlock`).
+//! `src/tbbmalloc/Synchronize.h` (`MallocMutex`) and `src/tbbmalloc/backend.cpp` (`Bin::addBlock`, `Bin::removeBlock`).
 //! That a lock names the seat that has it, and that a list begins and ends at a word of 0, are this project's own.
 #![tactic(auto)]
 

@@ -65,7 +65,8 @@ alignment_of (Msize place) = 1
 alignment_of (Identify place) = 1
 alignment_of Exit = 1
 
--- the object at the place suits the request: it is large enough, lies in one live region, and its address is aligned
+-- the object at the place suits the request (it meets the specification): it is large enough, lies in one live region,
+-- and its address is aligned
 pub record Suits (limits : Limits) (state : State) (request : Request) (place : Place) (usable : ℕ) : Type 0 where
   pub region : RegionRec
   pub live : Contains state.regions region

@@ -1,8 +1,8 @@
 //! The partition machine: what a pool's bytes, slabs and regions may do, step by step, and which answers of calls are
 //! legal. It knows nothing of how a pool is built. This project's own.
 //!
-//! The crate has definitions, in `specs/`, and laws, each of which is what a function of `laws` ensures. There is no
-//! code to run.
+//! The crate has definitions, in `specs/`, and laws (theorems), each of which is what a function of `laws` ensures.
+//! There is no code to run.
 //!
 //! - `States` has the state: where each byte is, the live regions, the book of slabs and the seats' last numbers.
 //! - `Ranges` and `Regions` say what granules, blocks, slabs, objects and regions are. What a pool asks its callback

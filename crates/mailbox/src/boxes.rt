@@ -8,7 +8,7 @@ use pool_words::{Action, Word};
 use public_list::{JoinAt, JoinCall, JoinNext};
 use word_codes::{END, MailKey, Next, link_of};
 
-/// The seat and the class of the mailbox, and the newest private object of the slab that is joined.
+/// The seat and the class of the mailbox (a message queue), and the newest private object of the slab that is joined.
 #[derive(Clone, Copy)]
 pub struct BoxCall {
     pub seat: u8,

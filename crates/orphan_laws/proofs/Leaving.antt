@@ -25,7 +25,7 @@ use Rattle.chain_laws.specs.Chains.Link.{To}
 use Rattle.slab_laws.specs.Books.{Keeper, IsThere, IsLeft, record_of}
 use Rattle.slab_laws.proofs.CallerLemmas.{put-same, put-other, each}
 use Rattle.mail_laws.specs.Mail as mailing
-use Rattle.mail_laws.specs.Mail.{Mail, item_link, next_link, links_in, MailFits, MailGood}
+use Rattle.mail_laws.specs.Mail.{Mail, item_link, links_in, MailFits, MailGood}
 use Rattle.mail_laws.specs.Steps.{with_mail, IsMoving, close_action, shadow_closed, MailStep}
 use Rattle.mail_laws.proofs.CallerLemmas.{first-among, null-reads, word_null}
 use Rattle.mail_laws.proofs.CallerLemmas.{steps_keep_mail}
@@ -59,9 +59,6 @@ apart_kept k g s h r t e o good by now ne same = record {
 pub inside_by : (k : Key) (g : Shadow) (s : Core) (t e : ℕ) → OrphansGood k g s → s.book.keeper e ≡ Keeper.By t
     → e < k.span
 inside_by k g s t e good by = good.mail.places.inside e (subst IsThere (sym by) tt)
-
-pub not_orphan : (q : Keeper) (t : ℕ) → q ≡ Keeper.By t → is_orphan q ≡ 0
-not_orphan q t by = ap is_orphan by
 
 -- P6
 pub close_other : (k : Key) (g : Shadow) (m : Mem) (l : Locals) (t e : ℕ) → OrphansGood k g (core_in m l)

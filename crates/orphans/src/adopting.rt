@@ -8,7 +8,7 @@ ghost use Rattle.orphans.specs.Adopting.{adopt_course, adopt_learn, adopt_taken,
 use pool_words::{Action, Word};
 use word_codes::{END, MailKey, Next, Own, link_of};
 
-/// The adopter, and the class of the slabs.
+/// The adopter, who reclaims abandoned slabs, and their class.
 #[derive(Clone, Copy)]
 pub struct AdoptCall {
     pub seat: u8,

@@ -10,7 +10,7 @@ use mailbox::slab_push;
 use pool_words::{Action, Word};
 use word_codes::{Own, Public};
 
-/// The slab, its class, and its header word.
+/// The slab that is left (abandoned), its class, and its header word.
 #[derive(Clone, Copy)]
 pub struct LeaveCall {
     pub slab: u64,

@@ -13,18 +13,6 @@ apart_from_more range parts i d below here (to_all, from_all) =
       λ all. (subst (λ ps. IsApartFromAll range ps) front (from_all all)).1,
     )
 
-pub apart_from_one : (range : Range) (parts : List Part) (i : ℕ) (d : Part) → i < length parts →
-    (IsApartFromAll range (drop i parts) ↔ IsApartFromAll range parts) → IsApartFromAll range parts → IsApart range (get_or parts i d).range
-apart_from_one range parts i d below (to_all, from_all) all =
-    let front : drop i parts ≡ get_or parts i d ∷ drop (i + 1) parts = drop_more parts i d below in
-    (subst (λ ps. IsApartFromAll range ps) front (from_all all)).0
-
-pub apart_more : (parts : List Part) (i : ℕ) (d : Part) → i < length parts → IsApartFromAll (get_or parts i d).range (drop (i + 1) parts) →
-    (AreApart (drop i parts) ↔ AreApart parts) → (AreApart (drop (i + 1) parts) ↔ AreApart parts)
-apart_more parts i d below here (to_all, from_all) =
-    let front : drop i parts ≡ get_or parts i d ∷ drop (i + 1) parts = drop_more parts i d below in
-    (λ rest. to_all (subst AreApart (sym front) (here, rest)), λ all. (subst AreApart front (from_all all)).1)
-
 pub apart_one : (parts : List Part) (i : ℕ) (d : Part) → i < length parts → (AreApart (drop i parts) ↔ AreApart parts) → AreApart parts →
     IsApartFromAll (get_or parts i d).range (drop (i + 1) parts)
 apart_one parts i d below (to_all, from_all) all =

@@ -1,5 +1,5 @@
 -- What a move changes and what it leaves, byte by byte.
-use Rattle.std.proofs.Common.{◌++◌, ◌≡◌, ◌⊎◌, ℕ, inl, inr, List, [], ◌∷◌, Some, None, Bool, true, false, ◌&&◌, ◌||◌, not, refl, sym, ◌∙◌, ap, arith}
+use Rattle.std.proofs.Common.{◌≡◌, ◌⊎◌, ℕ, inl, inr, List, [], ◌∷◌, Some, None, Bool, true, false, ◌&&◌, ◌||◌, not, refl, sym, ◌∙◌, ap, arith}
 use Rattle.std.specs.Prelude.{if◌then◌else◌, count_by}
 use Rattle.std.specs.declared.option.Option.{Option}
 use Rattle.std.proofs.lemmas.Bool.{cases_Bool, or_parts, or_from, or_left, or_right}
@@ -30,11 +30,6 @@ pub after_parts-at : (one other : Holding) (parts : List Part) (byte : Place) �
 after_parts-at one other [] byte same = same
 after_parts-at one other (part ∷ parts) byte same =
     after_parts-at (after_part one part) (after_part other part) parts byte (ap (λ (h : Option Holder). if lies_in byte part.range then part.to else h) same)
-
--- the parts of two moves, one after the other
-pub after_parts-append : (held : Holding) (one other : List Part) → after_parts held (one ++ other) ≡ after_parts (after_parts held one) other
-after_parts-append held [] other = refl
-after_parts-append held (part ∷ one) other = after_parts-append (after_part held part) one other
 
 -- a byte of no part stays
 pub after_parts-outside : (held : Holding) (parts : List Part) (byte : Place) → lies_in_any byte parts ≡ false → after_parts held parts byte ≡ held byte

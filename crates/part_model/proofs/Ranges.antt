@@ -1,5 +1,5 @@
 -- Places, and the ranges that they lie in.
-use Rattle.std.proofs.Common.{◌≡◌, inl, inr, ℕ, ◌+◌, ◌<◌, ◌≤◌, true, false, ◌&&◌, ◌==◌, eq-eqb, sym, ◌∙◌, ap, arith, nat_le, nat_lt}
+use Rattle.std.proofs.Common.{◌≡◌, inl, inr, ℕ, ◌+◌, ◌<◌, ◌≤◌, true, false, ◌&&◌, ◌==◌, eq-eqb, ◌∙◌, ap, arith, nat_le, nat_lt}
 use Rattle.std.proofs.lemmas.Bool.{and_parts, and_from, eqb-true, leb-true, ltb-true, le-leb, lt-ltb, cases_Bool}
 use Rattle.pool_types.specs.declared.values.Place.{Place}
 use Rattle.part_model.specs.declared.moves.Range.{Range}
@@ -43,10 +43,6 @@ place_is byte place same =
 pub lies_in-not : (byte : Place) (range : Range) → (lies_in byte range ≡ true → ⊥) → lies_in byte range ≡ false
 lies_in-not byte range never = elim (cases_Bool (lies_in byte range)) [ inl inside ↦ absurd (never inside) | inr outside ↦ outside ]
 
--- ranges that are apart, either way round
-pub apart_sym : (one other : Range) → IsApart one other → IsApart other one
-apart_sym one other apart byte inside = lies_in-not byte one (λ within. let outside = apart byte within in cc)
-
 -- a range that ends where another begins, or before
 pub apart_before : (one other : Range) → one.place.offset + one.bytes ≤ other.place.offset → IsApart one other
 apart_before one other ends byte inside =
@@ -54,12 +50,3 @@ apart_before one other ends byte inside =
     let low = lies_in-parts byte one inside in
     let high = lies_in-parts byte other within in
     omega (arith, ends, low.below, high.from))
-
--- ranges of two regions
-pub apart_regions : (one other : Range) → same_region one.place other.place ≡ false → IsApart one other
-apart_regions one other differ byte inside =
-    lies_in-not byte other (λ within.
-    let here = same_region-parts byte one.place (lies_in-parts byte one inside).region in
-    let there = same_region-parts byte other.place (lies_in-parts byte other within).region in
-    let same = same_region-is one.place other.place (sym here.0 ∙ there.0) (sym here.1 ∙ there.1) in
-    cc)

@@ -1,5 +1,5 @@
 -- Lists of stretches: what they say of a byte, as pieces are added and taken out.
-use Rattle.std.proofs.Common.{◌≡◌, ℕ, ◌+◌, ◌<◌, ◌≤◌, List, [], ◌∷◌, ◌++◌, Some, None, Bool, true, false, ◌&&◌, not, refl, sym, ◌∙◌, ap, arith, take, drop, get_or, length, nat_le, nat_lt}
+use Rattle.std.proofs.Common.{◌≡◌, ℕ, ◌+◌, ◌<◌, List, [], ◌∷◌, ◌++◌, Some, None, Bool, true, false, ◌&&◌, not, refl, sym, ◌∙◌, ap, arith, take, drop, get_or, length, nat_le, nat_lt}
 use Rattle.std.specs.Prelude.{if◌then◌else◌}
 use Rattle.std.proofs.lemmas.List.{take_more, drop_more}
 use Rattle.std.specs.declared.option.Option.{Option}
@@ -22,10 +22,6 @@ holder_at-append (x ∷ xs) ys byte =
 pub cover-append : (xs ys : List Stretch) (byte : Place) → cover (xs ++ ys) byte ≡ cover xs byte + cover ys byte
 cover-append [] ys byte = omega arith
 cover-append (x ∷ xs) ys byte = let rest = cover-append xs ys byte in omega arith
-
--- one stretch of its own is a piece
-pub holder_at-one : (stretch : Stretch) (byte : Place) → holder_at (stretch ∷ []) byte ≡ at_piece (Some stretch) byte
-holder_at-one stretch byte = refl
 
 pub cover-one : (stretch : Stretch) (byte : Place) → cover (stretch ∷ []) byte ≡ count_of (at_piece (Some stretch) byte)
 cover-one stretch byte = by_test (lies_in byte stretch.range)
@@ -103,33 +99,6 @@ cover_more stretches kept next i d range byte below before now =
         cover kept byte + count_of (if b then None else at_piece (Some (get_or stretches i d)) byte) ≡ (if b then 0 else cover (take (i + 1) stretches) byte)
     by_test true before more one = omega arith
     by_test false before more one = omega arith
-
--- a part's own stretch, behind what lies outside of its range
-pub then_part : (part : Part) (stretches kept next : List Stretch) (piece : Option Stretch) (byte : Place) →
-    holder_at kept byte ≡ (if lies_in byte part.range then None else holder_at stretches byte) → at_piece piece byte ≡ (if lies_in byte part.range then part.to else None) →
-    holder_at next byte ≡ first_of (holder_at kept byte) (at_piece piece byte) → holder_at next byte ≡ after_part (holder_at stretches) part byte
-then_part part stretches kept next piece byte before piece_is now =
-    now ∙ ap (λ h. first_of h (at_piece piece byte)) before ∙ ap (λ h. first_of (if lies_in byte part.range then None else holder_at stretches byte) h) piece_is
-    ∙ by_test (lies_in byte part.range) (holder_at stretches byte) part.to
-  where
-    by_test : (b : Bool) (held to : Option Holder) → first_of (if b then None else held) (if b then to else None) ≡ (if b then to else held)
-    by_test true held to = refl
-    by_test false None to = refl
-    by_test false (Some holder) to = refl
-
--- after a part, each byte has at most one stretch still
-pub once_moved : (part : Part) (stretches kept next : List Stretch) (piece : Option Stretch) → IsOnce stretches →
-    ((byte : Place) → cover kept byte ≡ (if lies_in byte part.range then 0 else cover stretches byte)) →
-    ((byte : Place) → at_piece piece byte ≡ (if lies_in byte part.range then part.to else None)) →
-    ((byte : Place) → cover next byte ≡ cover kept byte + count_of (at_piece piece byte)) → IsOnce next
-once_moved part stretches kept next piece once before piece_is now byte =
-    by_test (lies_in byte part.range) part.to (before byte) (ap count_of (piece_is byte)) (now byte) (once byte)
-  where
-    by_test : (b : Bool) (to : Option Holder) → cover kept byte ≡ (if b then 0 else cover stretches byte) → count_of (at_piece piece byte) ≡ count_of (if b then to else None) →
-        cover next byte ≡ cover kept byte + count_of (at_piece piece byte) → cover stretches byte ≤ 1 → cover next byte ≤ 1
-    by_test true None e f g once = omega arith
-    by_test true (Some holder) e f g once = omega arith
-    by_test false to e f g once = omega arith
 
 -- parts of two holdings that agree
 pub after_parts-same : (one other : Holding) (parts : List Part) → ((byte : Place) → one byte ≡ other byte) → (byte : Place) → after_parts one parts byte ≡ after_parts other parts byte

@@ -18,7 +18,8 @@ same_region one other = (one.pool == other.pool) && (one.region == other.region)
 -- the byte lies in the range
 abbrev pub lies_in : Place → Range → Bool
 lies_in byte range =
-    same_region byte range.place && nat_le range.place.offset byte.offset && nat_lt byte.offset (range.place.offset + range.bytes)
+    same_region byte range.place && nat_le range.place.offset byte.offset
+    && nat_lt byte.offset (range.place.offset + range.bytes)
 
 -- the holders after one part
 abbrev pub after_part : Holding → Part → Holding

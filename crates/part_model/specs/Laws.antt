@@ -16,7 +16,8 @@ use Rattle.part_model.specs.Totals.{is_at, has_holder, is_region, regions_held, 
 -- A holding and a move determine what the move answers, but for want of memory.
 abbrev pub MovesAnswerOnce : Type 0
 MovesAnswerOnce = (seat : ℕ) (held : Holding) (parts : List Part) (one other : Result Unit ApplyError) →
-    Answers seat parts held one → Answers seat parts held other → one ≢ Err NoMemory → other ≢ Err NoMemory → one ≡ other
+    Answers seat parts held one → Answers seat parts held other → one ≢ Err NoMemory → other ≢ Err NoMemory
+    → one ≡ other
 
 -- all kinds of holders
 abbrev pub holder_kinds : List HolderKind
@@ -59,7 +60,8 @@ AreApartFrom (part ∷ parts) others = IsApartFromAll part.range others × AreAp
 pub record Commute (held : Holding) (one other : List Part) : Type 0 where
   pub first : (seat : ℕ) → CanMoveAll seat held one ↔ CanMoveAll seat (after_parts held other) one
   pub second : (seat : ℕ) → CanMoveAll seat held other ↔ CanMoveAll seat (after_parts held one) other
-  pub same : (byte : Place) → after_parts (after_parts held one) other byte ≡ after_parts (after_parts held other) one byte
+  pub same : (byte : Place)
+      → after_parts (after_parts held one) other byte ≡ after_parts (after_parts held other) one byte
 
 -- two moves over ranges that are apart commute
 abbrev pub ApartMovesCommute : Type 0
@@ -86,8 +88,10 @@ pub record Follows (old new : Totals) (parts : List Part) : Type 0 where
   pub private : new.private + bytes_from (is_at Private) parts ≡ old.private + bytes_to (is_at Private) parts
   pub public : new.public + bytes_from (is_at Public) parts ≡ old.public + bytes_to (is_at Public) parts
   pub object : new.object + bytes_from (is_at Object) parts ≡ old.object + bytes_to (is_at Object) parts
-  pub large_head : new.large_head + bytes_from (is_at LargeHead) parts ≡ old.large_head + bytes_to (is_at LargeHead) parts
-  pub slab_cache : new.slab_cache + bytes_from (is_at SlabCache) parts ≡ old.slab_cache + bytes_to (is_at SlabCache) parts
+  pub large_head : new.large_head + bytes_from (is_at LargeHead) parts
+      ≡ old.large_head + bytes_to (is_at LargeHead) parts
+  pub slab_cache : new.slab_cache + bytes_from (is_at SlabCache) parts
+      ≡ old.slab_cache + bytes_to (is_at SlabCache) parts
   pub cached : new.cached + bytes_from (is_at Cached) parts ≡ old.cached + bytes_to (is_at Cached) parts
   pub bin : new.bin + bytes_from (is_at Bin) parts ≡ old.bin + bytes_to (is_at Bin) parts
   pub queue : new.queue + bytes_from (is_at Queue) parts ≡ old.queue + bytes_to (is_at Queue) parts
@@ -119,7 +123,8 @@ pub record RegionsFollow (old new : Holding) (parts : List Part) : Type 0 where
       region_bytes has_holder new pool region + region_from pool region parts
       ≡ region_bytes has_holder old pool region + region_to pool region parts
   pub within : All IsWithin parts → regions_held new ≡ regions_held old
-  pub of_one : (pool region : ℕ) → pool < 2 ^ 16 → region < 2 ^ 32 → All (λ part. is_region pool region part.range ≡ true) parts →
+  pub of_one : (pool region : ℕ) → pool < 2 ^ 16 → region < 2 ^ 32
+      → All (λ part. is_region pool region part.range ≡ true) parts →
       regions_held new + (if is_live old pool region then 1 else 0)
       ≡ regions_held old + (if is_live new pool region then 1 else 0)
 
@@ -132,7 +137,8 @@ RegionsFollowMoves = (seat : ℕ) (held : Holding) (parts : List Part) →
 -- the bytes at all kinds of holders
 abbrev pub sum_of : Totals → ℕ
 sum_of t =
-    t.waste + t.head + t.rest + t.private + t.public + t.object + t.large_head + t.slab_cache + t.cached + t.bin + t.queue + t.hand
+    t.waste + t.head + t.rest + t.private + t.public + t.object + t.large_head + t.slab_cache + t.cached + t.bin
+    + t.queue + t.hand
 
 -- the bytes of the live regions
 abbrev pub live_bytes : Holding → ℕ
@@ -141,4 +147,5 @@ live_bytes held =
 
 -- the totals of all kinds sum to the bytes of the live regions
 abbrev pub TotalsSum : Type 0
-TotalsSum = (held : Holding) → (sum_of (totals_of held) ≡ (totals_of held).bytes) × ((totals_of held).bytes ≡ live_bytes held)
+TotalsSum = (held : Holding)
+    → (sum_of (totals_of held) ≡ (totals_of held).bytes) × ((totals_of held).bytes ≡ live_bytes held)

@@ -83,3 +83,22 @@ totals_of held = record {
   queue = bytes_at OfQueue held;
   hand = bytes_at OfHand held;
 }
+
+-- the totals of a pool that has no region
+abbrev pub no_totals : Totals
+no_totals = record {
+  regions = 0;
+  bytes = 0;
+  waste = 0;
+  head = 0;
+  rest = 0;
+  «private» = 0;
+  «public» = 0;
+  object = 0;
+  large_head = 0;
+  slab_cache = 0;
+  cached = 0;
+  bin = 0;
+  queue = 0;
+  hand = 0;
+}

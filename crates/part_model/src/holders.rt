@@ -5,20 +5,21 @@ ghost use Rattle.part_model.specs.Totals.{is_at};
 
 use pool_types::Grant;
 
-/// Who has a byte of a pool. This project's own; what oneTBB's tbbmalloc does with such bytes stands behind each.
+/// Who has a byte of a pool (its owner). This project's own; what oneTBB's tbbmalloc does with such bytes stands behind
+/// each.
 #[derive(Clone, Copy, Debug, PartialEq, Eq)]
 pub enum Holder {
     /// The ends of a region, outside of its granules.
     Waste,
     /// What lies in a slab before its objects (tbbmalloc's `Block` header).
     Head,
-    /// The objects of a slab that were never handed out (behind its `bumpPtr`).
+    /// The objects of a slab that were never handed out (behind its bump pointer, `bumpPtr`).
     Rest,
-    /// An object that its slab's owner freed (in its `freeList`).
+    /// An object that its slab's owner freed (in its local free list, `freeList`).
     Private,
-    /// An object that another thread freed (in its `publicFreeList`).
+    /// An object that another thread freed (in its remote free list, `publicFreeList`).
     Public,
-    /// An object that was handed out under this grant.
+    /// An object (an allocation) that was handed out under this grant.
     Object(Grant),
     /// What lies before a large object in its block, which has the object's grant (`LargeMemoryBlock`).
     LargeHead(Grant),
@@ -30,7 +31,7 @@ pub enum Holder {
     Bin,
     /// A block that waits to be united with its neighbours (the `CoalRequestQ`).
     Queue,
-    /// What this seat is just about to hand on.
+    /// What is in transit: this seat is just about to hand it on.
     Hand(u8),
 }
 

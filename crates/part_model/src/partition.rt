@@ -29,8 +29,8 @@ pub enum ApplyError {
     NoMemory,
 }
 
-/// Which holder has each byte of the pool's live regions. Contracts see it as a list of stretches, and speak of it
-/// by `holder_at`, which gives None at a byte that is in no live region. This project's own.
+/// Which holder has each byte of the pool's live regions (an ownership map). Contracts see it as a list of stretches,
+/// and speak of it by `holder_at`, which gives None at a byte that is in no live region. This project's own.
 #[derive(Drop)]
 pub struct Partition {
     stretches: Vec<Stretch>,

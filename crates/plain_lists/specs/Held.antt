@@ -5,6 +5,7 @@ use Rattle.std.specs.declared.option.Option.{Option}
 use Rattle.pool_types.specs.declared.values.Leak.{Leak}
 use Rattle.pool_types.specs.declared.values.Region.{Region}
 use Rattle.part_model.specs.declared.totals.Totals.{Totals}
+use Rattle.part_model.specs.Totals.{no_totals}
 use Rattle.size_classes.specs.Classes.{class_size, class_objects}
 use Rattle.size_classes.specs.Layout.{head_bytes}
 use Rattle.plain_lists.specs.Lists.{OwnSlab, Block, Lists}
@@ -27,29 +28,10 @@ slab_object slab = (length slab.objects - length slab.private) * class_size slab
 abbrev pub block_bytes : Block → ℕ
 block_bytes block = 8192 * block.granules
 
--- a pool that has no region
-abbrev pub no_bytes : Totals
-no_bytes = record {
-  regions = 0;
-  bytes = 0;
-  waste = 0;
-  head = 0;
-  rest = 0;
-  private = 0;
-  public = 0;
-  object = 0;
-  large_head = 0;
-  slab_cache = 0;
-  cached = 0;
-  bin = 0;
-  queue = 0;
-  hand = 0;
-}
-
 -- the totals of the pool, where it has this region
 abbrev pub totals_in : Option Region → Lists → Totals
-totals_in None lists = no_bytes
-totals_in (Some region) lists = record no_bytes {
+totals_in None lists = no_totals
+totals_in (Some region) lists = record no_totals {
   regions = 1;
   bytes = region.bytes;
   head = sum_by slab_head lists.slabs;

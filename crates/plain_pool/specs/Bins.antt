@@ -80,7 +80,8 @@ pub record IsNew (blocks : List Block) (block : Block) : Type 0 where
 pub record IsClear (index : ℕ) (blocks : List Block) : Type 0 where
   pub even : index % 2 ≡ 0
   pub inside : index + 2 ≤ 128
-  pub apart : (block : Block) → Contains blocks block → (block.first + block.granules ≤ index) ⊎ (index + 2 ≤ block.first)
+  pub apart : (block : Block) → Contains blocks block
+      → (block.first + block.granules ≤ index) ⊎ (index + 2 ≤ block.first)
 
 -- a slab was cut out of this one of the blocks, or there was none
 abbrev pub IsCut : Bins → List Block → Option Block → Option ℕ → Type 0

@@ -16,7 +16,7 @@ pub record Has (pool : PoolArrays) (lists : Lists) : Type 0 where
   pub stored : pool.stored.items ≡ lists.stored
   pub granted : pool.granted ≡ lists.granted
 
--- the pool stands for these lists, which are good
+-- the pool stands for these lists (the abstraction relation), which are good
 pub record Stands (pool : PoolArrays) (lists : Lists) : Type 0 where
   pub good : AreGood lists
   pub arrays : Has pool lists
@@ -32,4 +32,5 @@ pub record AreStored (stored : List ℕ) (blocks : List Block) : Type 0 where
   pub inside : (index : ℕ) → Contains stored index → index + 2 ≤ 128
   pub once : (granule : ℕ) → stored_on granule stored + blocks_on granule blocks ≤ 1
   pub each : (block : Block) → Contains blocks block → IsGoodBlock block
-  pub parted : (one other : Block) → Contains blocks one → Contains blocks other → one.first + one.granules ≢ other.first
+  pub parted : (one other : Block) → Contains blocks one → Contains blocks other
+      → one.first + one.granules ≢ other.first

@@ -56,12 +56,14 @@ number_of None = None
 
 -- the marks name the numbers of the objects that are held, each at the unit where the object begins, and no other
 abbrev pub AreNumbers : List Mark → List OwnSlab → Type 0
-AreNumbers marks slabs = (unit : ℕ) → unit < 131072 → number_in (mark_at marks unit) ≡ number_of (spot_in (8 * unit) (slab_in (unit / 2048) slabs))
+AreNumbers marks slabs = (unit : ℕ) → unit < 131072
+    → number_in (mark_at marks unit) ≡ number_of (spot_in (8 * unit) (slab_in (unit / 2048) slabs))
 
 -- the marks of these private objects name each the next one
 abbrev pub AreLinks : List Mark → ℕ → ℕ → List ℕ → Type 0
 AreLinks marks index class [] = Unit {0}
-AreLinks marks index class (object ∷ private) = (link_in (mark_at marks (unit_at index class object)) ≡ slice_get private 0) × AreLinks marks index class private
+AreLinks marks index class (object ∷ private) =
+    (link_in (mark_at marks (unit_at index class object)) ≡ slice_get private 0) × AreLinks marks index class private
 
 -- the arrays are those of these slabs
 pub record SlabsFit (rooms : List (Option SlabRec)) (classes : Lists) (marks : List Mark) (slabs : List OwnSlab) : Type 0 where
@@ -83,7 +85,8 @@ pub record ArePlaced (slabs : List OwnSlab) : Type 0 where
   pub classes : (slab : OwnSlab) → Contains slabs slab → slab.class < 26
   pub even : (slab : OwnSlab) → Contains slabs slab → slab.index % 2 ≡ 0
   pub inside : (slab : OwnSlab) → Contains slabs slab → slab.index + 2 ≤ 128
-  pub one : (slab other : OwnSlab) → Contains slabs slab → Contains slabs other → slab.index ≡ other.index → slab ≡ other
+  pub one : (slab other : OwnSlab) → Contains slabs slab → Contains slabs other → slab.index ≡ other.index
+      → slab ≡ other
 
 -- the private objects of a slab are those that came back, each once
 pub record IsKept (slab : OwnSlab) : Type 0 where

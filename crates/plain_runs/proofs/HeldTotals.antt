@@ -12,7 +12,7 @@ use Rattle.part_model.specs.declared.holders.Holder.TheVariants.{Head, Rest, Pri
 use Rattle.part_model.specs.declared.holders.HolderKind.TheVariants.{Waste as OfWaste, Head as OfHead, Rest as OfRest, Private as OfPrivate, Public as OfPublic, Object as OfObject, LargeHead as OfLargeHead, SlabCache as OfSlabCache, Cached as OfCached, Bin as OfBin, Queue as OfQueue, Hand as OfHand}
 use Rattle.part_model.specs.declared.totals.Totals.{Totals}
 use Rattle.part_model.specs.Holding.{Holding, same_region}
-use Rattle.part_model.specs.Totals.{is_at, has_holder, is_live, sum_regions, region_bytes, regions_held, place_at, totals_of}
+use Rattle.part_model.specs.Totals.{no_totals, is_at, has_holder, is_live, sum_regions, region_bytes, regions_held, place_at, totals_of}
 use Rattle.part_model.proofs.CallerLemmas.{sum_regions-same, sum_regions-none, sum_regions-one}
 use Rattle.size_classes.specs.Classes.{class_size, class_objects}
 use Rattle.size_classes.specs.Layout.{head_bytes}
@@ -20,7 +20,7 @@ use Rattle.machine.specs.States.{State}
 use Rattle.plain_lists.specs.Lists.{OwnSlab, Block, Lists, lies_on}
 use Rattle.plain_lists.specs.Whole.{grant_of}
 use Rattle.plain_lists.specs.Good.{has_granule}
-use Rattle.plain_lists.specs.Held.{no_bytes, totals_in, totals_at, slab_head, slab_rest, slab_private, slab_object, block_bytes}
+use Rattle.plain_lists.specs.Held.{totals_in, totals_at, slab_head, slab_rest, slab_private, slab_object, block_bytes}
 use Rattle.list_laws.proofs.Sums.{sum_below-same, sum_below-none, sum_by-same, sum_by-none, sum_below-const, sum_below-shifted}
 use Rattle.list_laws.proofs.Counts.{count-none}
 use Rattle.plain_runs.specs.Steps.{at_offset}
@@ -223,10 +223,10 @@ unfolding region_bytes
 nothing_counted test held p r none nowhere =
     sum_below-none (λ o. counted test (held (place_at p r o))) (2 ^ 64) (λ k below. ap (counted test) (nowhere (place_at p r k)) ∙ ap (λ (b : Bool). if b then 1 else 0) none)
 
-nothing_total : (held : Holding) → ((byte : Place) → held byte ≡ None) → totals_of held ≡ no_bytes
+nothing_total : (held : Holding) → ((byte : Place) → held byte ≡ None) → totals_of held ≡ no_totals
 nothing_total held nowhere =
     let none : (test : Option Holder → Bool) → test None ≡ false → sum_regions (region_bytes test held) ≡ 0 = λ test no. sum_regions-none (region_bytes test held) (λ p r. nothing_counted test held p r no nowhere) in
-    totals_same (totals_of held) no_bytes
+    totals_same (totals_of held) no_totals
     (sum_regions-none (λ p r. if is_live held p r then 1 else 0) (λ p r. ap {B = ℕ} (λ n. if nat_lt 0 n then 1 else 0) (nothing_counted has_holder held p r refl nowhere)))
     (none has_holder refl) (none (is_at OfWaste) refl) (none (is_at OfHead) refl) (none (is_at OfRest) refl) (none (is_at OfPrivate) refl) (none (is_at OfPublic) refl) (none (is_at OfObject) refl)
     (none (is_at OfLargeHead) refl) (none (is_at OfSlabCache) refl) (none (is_at OfCached) refl) (none (is_at OfBin) refl) (none (is_at OfQueue) refl) (none (is_at OfHand) refl)

@@ -82,15 +82,6 @@ tried-past out bytes base next steps met before found multiple past near =
         find-any (λ one. overlaps one (at_base bytes base)) (λ one. overlaps one (at_base bytes (1048576 * (k + 1)))) out met found
         (overlaps-on met bytes base (1048576 * (k + 1)) there (omega (arith, before.multiple)) (omega arith))
 
--- nothing is left to try where the base's bytes end too high
-pub none-past : (out : List Region) (bytes base : ℕ) (region : Region) → IsTried out bytes base → 2 ^ 64 - 1 < base + bytes → IsByRule out bytes region → ⊥
-none-past out bytes base region before high rule = none_past_at out bytes base region before high rule (cases_lt rule.least.steps before.steps)
-  where
-    none_past_at : (out : List Region) (bytes base : ℕ) (region : Region) (before : IsTried out bytes base) → 2 ^ 64 - 1 < base + bytes → (rule : IsByRule out bytes region) →
-        (rule.least.steps < before.steps) ⊎ (before.steps ≤ rule.least.steps) → ⊥
-    none_past_at out bytes base region before high rule (inl less) = true≢false (sym (before.tried rule.least.steps less) ∙ free_at out bytes region rule)
-    none_past_at out bytes base region before high rule (inr more) = omega (arith, before.multiple, rule.least.multiple, rule.ends)
-
 -- nor where the region that is met ends so high that no multiple follows
 pub none-behind : (out : List Region) (bytes base : ℕ) (region met : Region) → 1 ≤ bytes → IsTried out bytes base → find (λ one. overlaps one (at_base bytes base)) out ≡ Some met →
     2 ^ 64 - 1048576 < met.base + met.bytes → IsByRule out bytes region → ⊥

@@ -41,7 +41,8 @@ abbrev pub AreIn : Policy → Limits → Which → Type 0
 AreIn policy limits Seats = Unit {0}
 AreIn policy limits Region = is_out policy limits Seats ≡ false
 AreIn policy limits Granularity = (is_out policy limits Seats ≡ false) × (is_out policy limits Region ≡ false)
-AreIn policy limits Span = (is_out policy limits Seats ≡ false) × (is_out policy limits Region ≡ false) × (is_out policy limits Granularity ≡ false)
+AreIn policy limits Span = (is_out policy limits Seats ≡ false) × (is_out policy limits Region ≡ false)
+    × (is_out policy limits Granularity ≡ false)
 
 -- all limits are in their ranges
 abbrev pub AreAllIn : Policy → Limits → Type 0
@@ -57,7 +58,8 @@ pub record IsAllowed (policy : Policy) (limits : Limits) : Type 0 where
 abbrev pub IsRefusal : Policy → Limits → CreateError → Type 0
 IsRefusal policy limits InvalidPolicy = is_invalid policy ≡ true
 IsRefusal policy limits UnsupportedPolicy = (is_invalid policy ≡ false) × (is_unsupported policy ≡ true)
-IsRefusal policy limits (BadLimits which) = (is_invalid policy ≡ false) × (is_unsupported policy ≡ false) × AreIn policy limits which × (is_out policy limits which ≡ true)
+IsRefusal policy limits (BadLimits which) = (is_invalid policy ≡ false) × (is_unsupported policy ≡ false)
+    × AreIn policy limits which × (is_out policy limits which ≡ true)
 IsRefusal policy limits NoMemory = ⊥
 
 abbrev pub Checks : {T : Type 0} → Policy → Limits → Result T CreateError → Type 0

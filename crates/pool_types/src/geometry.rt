@@ -4,7 +4,7 @@
 /// The bytes of a unit: an object begins at a unit, which has the object's mark.
 pub const UNIT_BYTES: u64 = 8;
 
-/// The bytes of a granule, by which a pool cuts its regions.
+/// The bytes of a granule (a page), by which a pool cuts its regions.
 pub const GRANULE_BYTES: u64 = 8192;
 
 /// How many granules a slab has.
@@ -29,5 +29,6 @@ pub const CLASSES: usize = 26;
 /// The bytes of a line: the least that lies before a large object, and the least alignment of one.
 pub const LINE_BYTES: u64 = 64;
 
-/// How many lists of free blocks a pool has: one for each number of granules, the last one for all from there on.
+/// How many bins (segregated lists of free blocks) a pool has: one for each number of granules, the last one for all
+/// from there on.
 pub const BIN_COUNT: u32 = 512;

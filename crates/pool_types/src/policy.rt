@@ -8,8 +8,8 @@ use crate::limits::{MOST_REGION_BYTES, MOST_SEATS, MOST_SPAN};
 use crate::values::Region;
 use thiserror::Error;
 
-/// How a pool gets and gives back its regions. oneTBB's `MemPoolPolicy`, in
-/// include/oneapi/tbb/scalable_allocator.h: `gets` and `frees` say whether it has `pAlloc` and `pFree`.
+/// How a pool gets and gives back its regions. oneTBB's `MemPoolPolicy`, in include/oneapi/tbb/scalable_allocator.h:
+/// `gets` and `frees` say whether it has `pAlloc` and `pFree`.
 #[derive(Clone, Copy, Debug, PartialEq, Eq)]
 pub struct Policy {
     pub gets: bool,
@@ -29,7 +29,7 @@ pub struct Policy {
 pub struct Limits {
     /// The pool's number, which its places bear.
     pub pool: u16,
-    /// How many seats, each for one thread at a time: 1 to 64.
+    /// How many seats (thread slots), each for one thread at a time: 1 to 64.
     pub seats: u8,
     /// How many granule indices: at most 1024.
     pub span: u32,

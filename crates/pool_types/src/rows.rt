@@ -9,7 +9,8 @@ use crate::rows::Row::{
 };
 use crate::values::Place;
 
-/// A row of the table of atomic steps, by its name: a letter for what the step's word belongs to, and a number.
+/// A row of the table of atomic steps (a kind of atomic action), by its name: a letter for what the step's word belongs
+/// to, and a number.
 ///
 /// `M` are marks of objects, `P` public lists of slabs, `N` mail, `O` orphaned slabs, `G` guards of blocks, `B` bins,
 /// `Q` the queue of blocks to be joined, `C` the cache of large objects, `F` the office, its regions and kinds of
@@ -112,7 +113,7 @@ impl Row {
     }
 }
 
-/// Who keeps a slab: the thread of a seat, nobody, or a seat that is about to adopt it.
+/// Who keeps a slab (its owner): the thread of a seat, nobody, or a seat that is about to adopt it.
 #[derive(Clone, Copy, Debug, PartialEq, Eq)]
 pub enum Keeper {
     Seat(u8),

@@ -9,16 +9,16 @@ pub struct Place {
     pub offset: u64,
 }
 
-/// A region as the raw callback gave it: the address of its first byte, and how many bytes it has. What `pAlloc` of
-/// a `MemPoolPolicy` returns, in oneTBB's include/oneapi/tbb/scalable_allocator.h.
+/// A region (a chunk from the system) as the raw callback gave it: the address of its first byte, and how many bytes it
+/// has. What `pAlloc` of a `MemPoolPolicy` returns, in oneTBB's include/oneapi/tbb/scalable_allocator.h.
 #[derive(Clone, Copy, Debug, Default, PartialEq, Eq)]
 pub struct Region {
     pub base: u64,
     pub bytes: u64,
 }
 
-/// The name of an object that was handed out: the seat that asked, and which of that seat's objects it is. A seat's
-/// numbers in a pool are 1, 2, 3 and so on, and none comes twice. This project's own.
+/// The name of an object that was handed out (its identity): the seat that asked, and which of that seat's objects it
+/// is. A seat's numbers in a pool are 1, 2, 3 and so on, and none comes twice. This project's own.
 #[derive(Clone, Copy, Debug, Default, PartialEq, Eq)]
 pub struct Grant {
     pub seat: u8,

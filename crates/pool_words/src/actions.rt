@@ -7,7 +7,7 @@ use crate::words::{Key, Word};
 use pool_types::RegionRec;
 use regions::ObtainError;
 
-/// One atomic step.
+/// One step: an atomic action.
 #[derive(Clone, Copy)]
 pub enum Action {
     Load(Word),

@@ -46,7 +46,7 @@ pub enum Word {
     Forward(u64),
     /// The block before this one in its bin.
     Backward(u64),
-    /// The newest of the blocks that wait to be joined.
+    /// The newest of the blocks that wait to be joined (deferred coalescing).
     Queue,
     /// The block behind this one in the queue, and how many granules this one has.
     QueueLink(u64),
@@ -102,18 +102,19 @@ impl Word {
         let boxes = 26 * key.seats as usize;
         let all = key.words();
         match self {
+            // those that a turn names most often come first
             Word::Mark(unit) => placed(unit, 1024 * s, 0, all),
+            Word::BinHead(bin) => placed(bin, 512, 1031 * s + 515, all),
+            Word::Size(granule) => placed(granule, s + 1, 1029 * s + 1, all),
+            Word::Left(granule) => placed(granule, s + 1, 1030 * s + 2, all),
             Word::Kind(granule) => placed(granule, s + 1, 1024 * s, all),
             Word::Own(slab) => placed(slab, s, 1025 * s + 1, all),
+            Word::BinLock(bin) => placed(bin, 512, 1031 * s + 3, all),
+            Word::Forward(block) => placed(block, s, 1031 * s + 1027, all),
+            Word::Backward(block) => placed(block, s, 1032 * s + 1027, all),
             Word::Public(slab) => placed(slab, s, 1026 * s + 1, all),
             Word::Next(slab) => placed(slab, s, 1027 * s + 1, all),
             Word::Header(slab) => placed(slab, s, 1028 * s + 1, all),
-            Word::Size(granule) => placed(granule, s + 1, 1029 * s + 1, all),
-            Word::Left(granule) => placed(granule, s + 1, 1030 * s + 2, all),
-            Word::BinLock(bin) => placed(bin, 512, 1031 * s + 3, all),
-            Word::BinHead(bin) => placed(bin, 512, 1031 * s + 515, all),
-            Word::Forward(block) => placed(block, s, 1031 * s + 1027, all),
-            Word::Backward(block) => placed(block, s, 1032 * s + 1027, all),
             Word::Queue => placed(0, 1, 1033 * s + 1027, all),
             Word::QueueLink(block) => placed(block, s, 1033 * s + 1028, all),
             Word::Mailbox { seat, class } => placed(

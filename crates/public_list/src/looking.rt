@@ -16,7 +16,7 @@ pub enum LookFor {
     Realloc,
 }
 
-/// The place, by its region's number and the offset in it, and what the look is for.
+/// A look (a probe of words): the place, by its region's number and the offset in it, and what the look is for.
 #[derive(Clone, Copy)]
 pub struct LookCall {
     pub number: u64,

@@ -8,7 +8,7 @@ use chain_words::{PushAt, PushCall, PushNext};
 use pool_words::{Action, Word};
 use word_codes::{Mark, Public, public_link};
 
-/// The object's unit, and the slab that it is of.
+/// A free by a stranger (a remote free): the object's unit, and the slab that it is of.
 #[derive(Clone, Copy)]
 pub struct PostCall {
     pub unit: u64,

@@ -7,7 +7,8 @@ use Rattle.pool_types.specs.Policies.{align_up, granularity_of}
 
 -- room for so many granules and two more, but no less than the least region; a fixed pool asks for the least region
 abbrev pub wanted_bytes : Policy → Limits → ℕ → ℕ
-wanted_bytes policy limits granules = if policy.fixed then limits.region else max limits.region ((granules + 2) * granule_bytes)
+wanted_bytes policy limits granules =
+    if policy.fixed then limits.region else max limits.region ((granules + 2) * granule_bytes)
 
 -- the bytes asked, a multiple of the granularity
 abbrev pub asked_bytes : Policy → Limits → ℕ → ℕ

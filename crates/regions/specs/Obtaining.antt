@@ -88,8 +88,10 @@ module _ {R : Type 0} (out : R → List Region) (faults : R → ℕ) (got : R �
   Obtains old granules (Ok one) new = Comes old granules one new
   Obtains old granules (Err RawFailed) new = Fails old granules new
   Obtains old granules (Err HasRegion) new = IsRefused old granules HasRegion × (new ≡ old)
-  Obtains old granules (Err (RegionsFull count next)) new = IsRefused old granules (RegionsFull count next) × (new ≡ old)
-  Obtains old granules (Err (SpanFull asked greatest)) new = IsRefused old granules (SpanFull asked greatest) × (new ≡ old)
+  Obtains old granules (Err (RegionsFull count next)) new = IsRefused old granules (RegionsFull count next)
+      × (new ≡ old)
+  Obtains old granules (Err (SpanFull asked greatest)) new = IsRefused old granules (SpanFull asked greatest)
+      × (new ≡ old)
 
 -- the region at this index is passed to the callback, and its record is gone
 pub record Gives {R : Type 0} (out : R → List Region) (faults : R → ℕ) (passed : R → Region → Bool → R → Type 0)

@@ -46,7 +46,7 @@ pub record AreApart (earlier later : RegionRec) : Type 0 where
   pub spans : (earlier.first + earlier.granules < later.first) ⊎ (later.first + later.granules < earlier.first)
   pub bytes : overlaps earlier.region later.region ≡ false
 
--- what always holds of an office; `out` gives the regions that its callback has out
+-- what always holds of an office (its invariant); `out` gives the regions that its callback has out
 pub record IsSound {R : Type 0} (out : R → List Region) (desk : Desk R) : Type 0 where
   pub allowed : IsAllowed desk.policy desk.limits
   pub regions : out desk.raw ≡ regions_of desk.records

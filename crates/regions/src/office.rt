@@ -23,7 +23,8 @@ struct Asking {
     longest: Gap,
 }
 
-/// Keeps the records of the regions that a pool has got from its callback and not given back, by number.
+/// The pool's interface to the system: keeps the records of the regions that the pool has got from its callback and not
+/// given back, by number.
 ///
 /// A number is never used twice, and numbers end below `REGION_NUMBERS`. At most `MOST_REGIONS` regions are out, and no
 /// two of them have numbers that are equal modulo that. No call takes memory.

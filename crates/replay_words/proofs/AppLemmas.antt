@@ -1,12 +1,10 @@
 -- The commands as they are built.
-use Rattle.std.proofs.Common.{◌≡◌, true, ap, ◌∙◌, codes, refl}
+use Rattle.std.proofs.Common.{◌≡◌, true, ap, ◌∙◌}
 use Rattle.clap.specs.Walk.{Text}
-use Rattle.clap.specs.Simple.{App, app_of, app_of_fields, is_simple, new_app, on_top}
-use Rattle.clap.specs.Faults.{is_simple_and_free}
+use Rattle.clap.specs.Simple.{App, app_of, app_of_fields, new_app, on_top}
 use Rattle.clap.specs.declared.builder.command.Command.TheViews.{out-Command}
 use Rattle.clap.specs.declared.builder.command.Command.{Command}
-use Rattle.clap.proofs.OnLiterals.{clap_on_literals}
-use Rattle.replay_words.specs.Apps.{bare_app, gen_app, replay_app}
+use Rattle.replay_words.specs.Apps.{bare_app}
 
 -- a command whose help and version were switched off
 pub bare_is : (made helpless bare : Command) (name : Text) → app_of made ≡ new_app name
@@ -16,12 +14,3 @@ bare_is made helpless bare name named help version =
     ap app_of_fields version
     ∙ ap (λ f. app_of_fields (record f { disable_version_flag = true })) help
     ∙ ap (λ (a : App). on_top (λ s. record s { disable_help_flag = true; disable_version_flag = true }) a) named
-
--- both commands are simple
-pub replay_simple : is_simple_and_free replay_app ≡ true
-unfolding clap_on_literals
-replay_simple = refl
-
-pub gen_simple : is_simple_and_free gen_app ≡ true
-unfolding clap_on_literals
-gen_simple = refl

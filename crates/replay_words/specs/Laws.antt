@@ -6,7 +6,8 @@ use Rattle.replay_words.specs.declared.command.Command.TheVariants.{Gen, Replay}
 
 -- words are those of one command at most
 abbrev pub WordsAreClear : Type 0
-WordsAreClear = (words : List (List ℕ)) (one other : Command) → IsCommand words one → IsCommand words other → one ≡ other
+WordsAreClear = (words : List (List ℕ)) (one other : Command) → IsCommand words one → IsCommand words other
+    → one ≡ other
 
 -- these are commands, and these are none
 pub record FormsAreCommands : Type 0 where

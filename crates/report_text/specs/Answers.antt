@@ -12,7 +12,8 @@ use Rattle.report_text.specs.Pieces.{object_text, grant_text}
 
 -- a scan of bins in which no block fitted
 unfoldable pub looks_text : Looks → List ℕ
-looks_text looks = codes "no-fit " ++ (decimal looks.first ++ (codes ".." ++ (decimal looks.last ++ (codes " " ++ decimal looks.seen))))
+looks_text looks = codes "no-fit "
+    ++ (decimal looks.first ++ (codes ".." ++ (decimal looks.last ++ (codes " " ++ decimal looks.seen))))
 
 -- why a call answered null
 abbrev pub cause_text : NullCause → List ℕ

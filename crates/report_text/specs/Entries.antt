@@ -43,11 +43,17 @@ line_text line text = decimal line ++ (codes " " ++ (text ++ codes "\n"))
 -- how many regions had each fate when a pool was destroyed, and how many objects were held before
 unfoldable pub destroyed_text : ℕ → ℕ → ℕ → ℕ → List ℕ
 destroyed_text returned refused kept objects =
-    codes "destroyed returned " ++ (decimal returned ++ (codes " refused " ++ (decimal refused ++ (codes " kept " ++ (decimal kept ++ (codes " objects " ++ decimal objects))))))
+    codes "destroyed returned "
+    ++ (decimal returned
+    ++ (codes " refused "
+    ++ (decimal refused ++ (codes " kept " ++ (decimal kept ++ (codes " objects " ++ decimal objects))))))
 
 -- a region's number, its base and its bytes
 unfoldable pub region_text : ℕ → RegionRec → List ℕ
-region_text pool rec = codes "region P" ++ (decimal pool ++ (codes ".R" ++ (decimal rec.number ++ (codes " " ++ (decimal rec.region.base ++ (codes " " ++ decimal rec.region.bytes))))))
+region_text pool rec = codes "region P"
+    ++ (decimal pool
+    ++ (codes ".R"
+    ++ (decimal rec.number ++ (codes " " ++ (decimal rec.region.base ++ (codes " " ++ decimal rec.region.bytes))))))
 
 -- the line of a region of a pool that was destroyed
 unfoldable pub region_left_text : ℕ → RegionRec → Fate → List ℕ

@@ -58,9 +58,13 @@ keepers_text names change = keeper_text names change.from ++ (codes " " ++ keepe
 -- the line of a part of a move
 unfoldable pub move_text : List (List ℕ) → ℕ → ℕ → Row → Part → List ℕ
 move_text names number seat row part =
-    codes "move " ++ (step_text names number seat row ++ (codes " " ++ (range_text part.range ++ (codes " " ++ (sides_text names part ++ codes "\n")))))
+    codes "move "
+    ++ (step_text names number seat row
+    ++ (codes " " ++ (range_text part.range ++ (codes " " ++ (sides_text names part ++ codes "\n")))))
 
 -- the line of a slab that goes from one keeper to another
 unfoldable pub keeper_move_text : List (List ℕ) → ℕ → ℕ → Row → KeeperChange → List ℕ
 keeper_move_text names number seat row change =
-    codes "keeper " ++ (step_text names number seat row ++ (codes " " ++ (place_text change.slab ++ (codes " " ++ (keepers_text names change ++ codes "\n")))))
+    codes "keeper "
+    ++ (step_text names number seat row
+    ++ (codes " " ++ (place_text change.slab ++ (codes " " ++ (keepers_text names change ++ codes "\n")))))

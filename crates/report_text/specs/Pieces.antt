@@ -15,4 +15,5 @@ grant_text names grant = name_of names grant.seat ++ (codes "#" ++ decimal grant
 
 -- an object: its place, its usable bytes and its grant
 unfoldable pub object_text : List (List ℕ) → Place → ℕ → Grant → List ℕ
-object_text names place usable grant = place_text place ++ (codes " " ++ (decimal usable ++ (codes " " ++ grant_text names grant)))
+object_text names place usable grant = place_text place
+    ++ (codes " " ++ (decimal usable ++ (codes " " ++ grant_text names grant)))

@@ -1,18 +1,17 @@
 -- What a request is served as.
-use Rattle.std.proofs.Common.{◌≡◌, ◌≢◌, ℕ, ◌+◌, ◌-◌, ◌*◌, ◌/◌, ◌%◌, ◌^◌, ◌<◌, ◌≤◌, ◌⊎◌, true, false, not, Option, Some, None, nat_eq, max, refl, sym, ◌∙◌, ap, ap₂, subst, arith, cond, ◌||◌, inl, inr, eqb-true}
+use Rattle.std.proofs.Common.{◌≡◌, ℕ, ◌+◌, ◌-◌, ◌*◌, ◌/◌, ◌%◌, ◌^◌, ◌<◌, ◌≤◌, ◌⊎◌, true, false, not, Option, Some, None, nat_eq, max, refl, sym, ◌∙◌, ap, ap₂, subst, arith, cond, ◌||◌, inl, inr, eqb-true}
 use Rattle.std.specs.Int.{IsPowerOfTwo, is_power_of_two}
 use Rattle.std.proofs.Math.Nat.{div-mul-le_self, mul-mod_left, lt-div-mul-add, mul-le-mul_right}
 use Rattle.std.proofs.Math.Bool.{or-true}
 use Rattle.std.proofs.lemmas.Nat.{div-mul-add, div-add-mod'}
 use Rattle.std.proofs.lemmas.Bool.Decides.{nat_tests}
 use Rattle.std.proofs.lemmas.Bool.{cases_lt, false_from_ne_true}
-use Rattle.pool_types.specs.Geometry.{granule_bytes, granules_of}
 use Rattle.pool_types.specs.Policies.{align_up}
 use Rattle.size_classes.specs.Classes.{class_size, class_of, IsFirstClass}
 use Rattle.size_classes.specs.Served.{aligned_class, small_or, large_at, served_plain, served, IfSmall}
 use Rattle.size_classes.specs.declared.Served.TheVariants.{Small, Bad}
 use Rattle.size_classes.proofs.Below.{all_below, all_below-at}
-use Rattle.size_classes.proofs.Positions.{class_of-found, class_of-none}
+use Rattle.size_classes.proofs.Positions.{class_of-found}
 use Rattle.size_classes.proofs.Fitting.{first-past_doubled, class_size-whole, class_size-lines}
 use Rattle.size_classes.proofs.Powers.{is_power_of_two-is, power-positive, exponent-below}
 
@@ -47,14 +46,6 @@ pub aligned_class-block : (size alignment : ℕ) → (1024 < size) ⊎ (1024 < a
 unfolding aligned_class
 aligned_class-block size alignment large high = grind (arith, nat_tests)
 
--- from 8129 bytes on there is no class
-pub aligned_class-past : (size alignment : ℕ) → 8128 < size → aligned_class size alignment ≡ None
-aligned_class-past size alignment large =
-    elim (cases_lt 64 alignment) [
-      | inl high ↦ aligned_class-block size alignment (inl (omega arith)) high
-      | inr line ↦ aligned_class-line size alignment (omega arith) line ∙ class_of-none size large
-    ]
-
 -- what the code's rows say
 pub ruleset aligned_rows = (aligned_class-rounded, aligned_class-line, aligned_class-block)
 
@@ -63,28 +54,10 @@ pub served_plain-small : (size class : ℕ) → class_of size ≡ Some class →
 unfolding served_plain
 served_plain-small size class found = ap (λ some. small_or some (large_at size 64)) found
 
--- and one without
-pub served_plain-large : (size : ℕ) → 8128 < size → served_plain size ≡ large_at size 64
-unfolding served_plain
-served_plain-large size large = ap (λ none. small_or none (large_at size 64)) (class_of-none size large)
-
--- the granules have room for the bytes
-pub granules_of-room : (bytes : ℕ) → bytes ≤ granule_bytes * granules_of bytes
-granules_of-room bytes = omega arith
-
--- and no granule to spare
-pub granules_of-tight : (bytes : ℕ) → granule_bytes * granules_of bytes < bytes + granule_bytes
-granules_of-tight bytes = omega arith
-
 -- a fact of the class where there is one
 pub small_or-if : (found : Option ℕ) (size alignment : ℕ) (fact : ℕ → Type 0) → ((class : ℕ) → found ≡ Some class → fact class) → IfSmall (small_or found (large_at size alignment)) fact
 small_or-if (Some class) size alignment fact each = each class refl
 small_or-if None size alignment fact each = tt
-
--- an object of a class or a block is not bad
-pub small_or-never_bad : (found : Option ℕ) (size alignment : ℕ) → small_or found (large_at size alignment) ≢ Bad
-small_or-never_bad (Some class) size alignment bad = cc
-small_or-never_bad None size alignment bad = cc
 
 -- a request for bytes at a power of two has its class or a block
 pub served-well_formed : (size alignment : ℕ) → 0 < size → IsPowerOfTwo alignment → served size alignment ≡ small_or (aligned_class size alignment) (large_at size (max 64 alignment))

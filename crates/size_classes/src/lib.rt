@@ -29,7 +29,7 @@ const SIZES: [u16; CLASSES] = [
 /// Up to this size each doubling has four classes, from 64 on.
 const QUARTERS_END: u64 = 1024;
 
-/// A class of sizes. Contracts see it as its position among the 26 classes.
+/// A size class. Contracts see it as its position among the 26 classes.
 #[derive(Clone, Copy, Debug, PartialEq, Eq)]
 pub struct Class {
     position: u8,

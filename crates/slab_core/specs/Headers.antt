@@ -28,7 +28,8 @@ pub record IsHeaderOf (class word : ℕ) (slab : SlabRec) : Type 0 where
 
 -- a valid record is the only one with its header, of those with its class and index
 abbrev pub HeadersTellRecords : Type 0
-HeadersTellRecords = (slab other : SlabRec) → IsValid slab → IsValid other → slab.class ≡ other.class → slab.index ≡ other.index →
+HeadersTellRecords = (slab other : SlabRec) → IsValid slab → IsValid other → slab.class ≡ other.class
+    → slab.index ≡ other.index →
     to_header slab ≡ to_header other → slab ≡ other
 
 -- the object that such a number stands for

@@ -14,11 +14,13 @@ pub record Keeps (slab : SlabRec) (private : List ℕ) : Type 0 where
 
 -- a fresh slab has no private object
 abbrev pub FreshSlabsKeepNone : Type 0
-FreshSlabsKeepNone = (class index : ℕ) → Keeps (record { class = class; index = index; handed = 0; head = None; count = 0 }) []
+FreshSlabsKeepNone = (class index : ℕ)
+    → Keeps (record { class = class; index = index; handed = 0; head = None; count = 0 }) []
 
 -- a slab in which no more was handed out than its class has, and that has a private list, is valid
 abbrev pub KeepersAreValid : Type 0
-KeepersAreValid = (slab : SlabRec) (private : List ℕ) → Keeps slab private → slab.handed ≤ class_objects slab.class → IsValid slab
+KeepersAreValid = (slab : SlabRec) (private : List ℕ) → Keeps slab private → slab.handed ≤ class_objects slab.class
+    → IsValid slab
 
 -- what taking does to a slab, where `older` follows the newest private object: that object is given, `older` is the private
 -- list then, the rest stays, and one object more is held

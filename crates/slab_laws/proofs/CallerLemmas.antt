@@ -1,5 +1,5 @@
 -- What laws above cite.
-pub use Rattle.slab_laws.proofs.Maps.{put-same, put-other, each, both}
+pub use Rattle.word_laws.proofs.CallerLemmas.{put-same, put-other, each, both}
 pub use Rattle.slab_laws.proofs.Units.{room, unit-at, unit-inside, unit-below, units-once}
 pub use Rattle.slab_laws.proofs.Records.{capped-is, handed-few, after_take-private, after_take-rest, after_take-none}
 pub use Rattle.slab_laws.proofs.Records.{record-of-slab, header_tells}

@@ -6,6 +6,7 @@ use Rattle.pool_types.specs.declared.rows.Row.{Row}
 use Rattle.pool_words.specs.declared.words.Key.{Key}
 use Rattle.part_model.specs.declared.journal.Journaled.{Journaled}
 use Rattle.part_model.specs.declared.totals.Totals.{Totals}
+use Rattle.part_model.specs.Totals.{no_totals}
 use Rattle.step_depot.specs.Steps.{Stock, key_of, first_stock}
 use Rattle.step_local.specs.declared.frames.Local.{Local}
 use Rattle.step_local.specs.Frames.{made}
@@ -28,25 +29,6 @@ pub record Machine (R : Type 0) : Type 0 where
 abbrev pub made_locals : Key → ℕ → List Local
 made_locals k zero = []
 made_locals k (suc seats) = made_locals k seats ++ made k seats ∷ []
-
--- nothing is anywhere
-abbrev pub no_totals : Totals
-no_totals = record {
-  regions = 0;
-  bytes = 0;
-  waste = 0;
-  head = 0;
-  rest = 0;
-  «private» = 0;
-  «public» = 0;
-  object = 0;
-  large_head = 0;
-  slab_cache = 0;
-  cached = 0;
-  bin = 0;
-  queue = 0;
-  hand = 0;
-}
 
 abbrev pub first_machine : {R : Type 0} → Policy → Limits → R → Machine R
 first_machine policy limits raw = record {

@@ -48,8 +48,9 @@ fn keeps_all<R: Raw>(office: Office<R>) -> (Destroyed, R)
     (destroyed, office.end())
 }
 
-/// Ends an office: its regions go back, where there is a callback for it.
-fn ends<R: Raw>(office: Office<R>, frees: bool) -> (Destroyed, R)
+/// Ends an office. Each region that is out is passed to the callback once, by number; where there is no callback for
+/// giving back, each is kept.
+pub fn ends<R: Raw>(office: Office<R>, frees: bool) -> (Destroyed, R)
     ensures { EndsBy R.out R.faults R.passed frees office result.0 result.1 }
 {
     if frees {

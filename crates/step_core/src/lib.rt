@@ -16,5 +16,6 @@ mod resets;
 mod steps;
 mod turns;
 
+pub use endings::ends;
 pub use machine::PlainMachine;
 pub use resets::Resetting;

@@ -95,5 +95,6 @@ course_at l (At.Put at) = put_course (put_call l) at
 course_at l (At.Office job at) = office_course (office_call l job) at
 course_at l (At.Reset at) = reset_course l at
 
+-- the next action of a seat
 abbrev pub course : Local → Action
 course l = course_at l l.at

@@ -44,5 +44,6 @@ learn_at l (At.Put at) s = put_learn_of l at (word_seen s)
 learn_at l (At.Office job at) s = office_learn_of l job at s
 learn_at l (At.Reset at) s = reset_learn_of l at (word_seen s)
 
+-- the local transition of a seat, by what its next step found, and what the turn came to
 abbrev pub learn : Local → Seen → Local × Turn
 learn l s = learn_at l l.at s

@@ -71,8 +71,7 @@ impl Local {
     }
 
     /// A scan found nothing: the queue is looked at, then a region is obtained; where none came, blocks of the cache
-    /// are
-    /// released, the old ones and then all.
+    /// are released, the old ones and then all.
     fn scans_in_vain(&mut self, seen: u64) -> Turn
         ensures { (self.new, result) ≡ in_vain self.old seen self.old.ask.tries }
     {

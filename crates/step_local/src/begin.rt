@@ -62,8 +62,7 @@ fn suits_alignment(address: u64, alignment: Option<u64>) -> bool
 
 impl Local {
     /// Why nothing is got, where the request and the local decide it: a bad request, a seat's last number, or a block
-    /// that no
-    /// region of the pool has room for.
+    /// that no region of the pool has room for.
     fn refusal_of(&self, wanted: Option<Served>) -> Option<NullCause>
         ensures { result ≡ refusal_of self.now wanted }
     {

@@ -66,8 +66,7 @@ pub enum ResetStage {
 }
 
 /// An object: the number of its region, its offset there, the unit at which it begins, its mark's word, and what it
-/// lies
-/// in.
+/// lies in.
 #[derive(Clone, Copy)]
 pub struct Object {
     pub number: u64,
@@ -119,9 +118,8 @@ pub struct Call {
     pub lost: Found,
 }
 
-/// The mailbox, or the orphans, that are dealt with: of which class, the slab that a leaving heap awaits and whether
-/// it came,
-/// and the slab that is pushed back.
+/// The mailbox, or the orphans, that are dealt with: of which class, the slab that a leaving heap awaits and whether it
+/// came, and the slab that is pushed back.
 #[derive(Clone, Copy)]
 pub struct Fetch {
     pub class: u8,
@@ -130,8 +128,7 @@ pub struct Fetch {
     pub spare: u64,
 }
 
-/// How often the backend was scanned in vain: not yet, once, after a region could not be had and old cached blocks
-/// were
+/// How often the backend was scanned in vain: not yet, once, after a region could not be had and old cached blocks were
 /// released, and after all were.
 #[derive(Clone, Copy)]
 pub enum Tries {
@@ -142,8 +139,7 @@ pub enum Tries {
 }
 
 /// What is asked of the backend, how far that has come, the block that it is cut from, and why no region came; none
-/// where one
-/// came that has no piece that fits.
+/// where one came that has no piece that fits.
 #[derive(Clone, Copy)]
 pub struct Ask {
     pub want: Want,
@@ -176,8 +172,7 @@ pub enum PutFor {
 }
 
 /// What the office is taken for: to obtain a region, to give back the region that a put block is, or one that a block
-/// of the
-/// queue is.
+/// of the queue is.
 #[derive(Clone, Copy)]
 pub enum OfficeFor {
     Ask,
@@ -280,7 +275,7 @@ pub enum ResetAt {
     Bin(BinAt),
 }
 
-/// The step that comes next.
+/// A seat's position (its program counter): the step that comes next.
 #[derive(Clone, Copy)]
 pub enum At {
     Idle,
@@ -331,8 +326,7 @@ pub enum At {
 }
 
 /// One seat's part of a pool. The fields are public so that contracts see a local as its fields, and so that the same
-/// local
-/// stands wherever its words do.
+/// local stands wherever its words do.
 #[derive(Drop)]
 pub struct Local {
     pub key: Key,

@@ -62,8 +62,7 @@ impl Local {
     }
 
     /// No slab has an object: the mailbox is looked into, then the orphans, then a cached slab is begun, then the
-    /// backend is
-    /// asked.
+    /// backend is asked.
     fn looks_on(&mut self, class: u8) -> Turn
         ensures { (self.new, result) ≡ looking_on self.old class self.old.call.tried }
     {

@@ -10,8 +10,7 @@ use word_codes::link_of;
 
 impl Local {
     /// Takes what the next step found, and tells what the turn came to. A `Seen` without a word is read as 0. Where no
-    /// call is
-    /// begun, nothing changes.
+    /// call is begun, nothing changes.
     pub fn told(&mut self, seen: Seen) -> Turn
         ensures { (self.new, result) ≡ learn self.old seen }
     {

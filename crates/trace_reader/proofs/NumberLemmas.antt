@@ -49,10 +49,6 @@ the_number {E} word n r got parses plain =
 pub not_plain : (word : List ℕ) → (IsPlain word → ⊥) → (n : ℕ) → n < 2 ^ 64 → word ≢ decimal n
 not_plain word none n small is = none (subst IsPlain (sym is) (IsPlain-decimal n small))
 
--- a word spells one number
-pub one_number : (word : List ℕ) (number : ℕ) → (word ≡ decimal number) × (number < 2 ^ 64) → 8128 < number → (size : ℕ) → size ≤ 8128 → word ≢ decimal size
-one_number word number is large size small same = absurd (omega (arith, decimal_injective number size is.1 (omega arith) (sym is.0 ∙ same)))
-
 -- a word that spells one number spells no other
 pub other_number : (word : List ℕ) (number n : ℕ) → (word ≡ decimal number) × (number < 2 ^ 64) → n < 2 ^ 64 → number ≢ n → word ≢ decimal n
 other_number word number n is small other same = other (decimal_injective number n is.1 small (sym is.0 ∙ same))

@@ -1,8 +1,8 @@
 -- Words in their places.
-use Rattle.std.proofs.Common.{◌≡◌, ◌≢◌, ℕ, suc, add-one, ◌+◌, ◌-◌, ◌<◌, ◌^◌, List, [], ◌∷◌, ◌++◌, length, get_or, take, drop, drop-cons, map, refl, rules, sym, ◌∙◌, ap, arith}
+use Rattle.std.proofs.Common.{◌≡◌, ◌≢◌, ℕ, ◌+◌, ◌-◌, ◌<◌, ◌^◌, List, [], ◌∷◌, ◌++◌, length, get_or, take, drop, map, refl, rules, sym, ◌∙◌, ap, arith}
 use Rattle.std.specs.Prelude.{slice_get, option_map, Some, None}
 use Rattle.std.specs.Fmt.{decimal}
-use Rattle.std.proofs.lemmas.List.{take_all, take-append-drop, length-take-le, get_or-take}
+use Rattle.std.proofs.lemmas.List.{take_all}
 use Rattle.std.proofs.lemmas.Option.{slice_get-map, slice_get-get_or}
 use Rattle.std.proofs.lemmas.Str.Parse.{not_in_digits}
 use Rattle.std.proofs.lemmas.Fmt.{decimal_digit, digits_decimal}
@@ -28,14 +28,6 @@ one_front byte (x ∷ xs) ys (u ∷ us) vs none free same =
     let heads : x ≡ u = cc in
     let tails = one_front byte xs ys us vs (HasNo-rest byte x xs none) (HasNo-rest byte u us free) rest in
     (ap (λ (f : ℕ). f ∷ xs) heads ∙ ap (λ (r : List ℕ). u ∷ r) tails.0, tails.1)
-
--- a text is parted at a byte that no earlier one equals
-pub parted_there : (byte : ℕ) (text : List ℕ) (i : ℕ) → i < length text → get_or text i 0 ≡ byte → ((k : ℕ) → k < i → get_or text k 0 ≢ byte) →
-    (text ≡ take i text ++ byte ∷ drop (i + 1) text) × HasNo byte (take i text)
-parted_there byte text i below is none = (
-  sym (take-append-drop i text) ∙ ap (λ (rest : List ℕ). take i text ++ rest) (rw add-one (drop-cons text i 0 below) ∙ ap (λ (b : ℕ). b ∷ drop (i + 1) text) is),
-  λ k inside. let low : k < i = omega (arith, length-take-le i text) in rw get_or-take (none k low),
-)
 
 -- a text without the byte is not parted by it
 pub not_parted : (byte : ℕ) (front rest : List ℕ) → HasNo byte (front ++ byte ∷ rest) → ⊥

@@ -14,7 +14,7 @@ use Rattle.trace_reader.specs.declared.acts.TraceLine.{TraceLine}
 use Rattle.trace_reader.specs.Words.{HasNo, split_on, words_of}
 use Rattle.trace_reader.specs.Contexts.{Context}
 use Rattle.trace_reader.specs.Acts.{Enters}
-use Rattle.trace_reader.specs.Text.{Outcome, AllRead, FirstRefused, IsReadAs, IsReadFrom, ReadsLine, ReadsLines, behind, nothing_yet}
+use Rattle.trace_reader.specs.Text.{Outcome, AllRead, FirstRefused, IsReadAs, IsReadFrom, ReadsLine, ReadsLines, behind}
 use Rattle.trace_reader.specs.Steps.{AddsLine, StepsTo}
 use Rattle.trace_reader.proofs.WordLemmas.{split_first, split_last, split_none}
 use Rattle.trace_reader.proofs.EnterLemmas.{enters_few}
@@ -88,16 +88,6 @@ pub record ReadSoFar (forms : Forms) (bytes rest : List ℕ) (number : ℕ) (now
   pub few : number ≤ most_lines + 1
   pub counted : now.count < number
   pub makes : (outcome : Outcome) → IsReadFrom forms now number rest outcome → IsReadAs forms bytes (behind lines outcome)
-
--- before the first line
-pub none_read : (forms : Forms) (bytes : List ℕ) (now : Context) (lines : List TraceLine) → now ≡ nothing_yet → lines ≡ [] → ReadSoFar forms bytes bytes 1 now lines
-none_read forms bytes now lines fresh none = record {
-  some = omega arith;
-  few = omega arith;
-  counted = omega (arith, ap (λ (c : Context). c.count) fresh);
-  makes = λ outcome reads. subst (λ (o : Outcome). IsReadAs forms bytes o) (sym (behind-nil outcome) ∙ ap (λ (ls : List TraceLine). behind ls outcome) (sym none))
-      (subst (λ (b : Context). IsReadFrom forms b 1 bytes outcome) fresh reads);
-}
 
 -- one line is refused
 pub one_refused : (forms : Forms) (bytes rest text more : List ℕ) (number : ℕ) (now next : Context) (lines after : List TraceLine) (refusal : Refusal) → BeginsLine rest text more →

@@ -75,11 +75,13 @@ IsPlainPool pool options = (pool ≡ 0) × (options ≡ option.Fixed ∷ [])
 
 -- one more name of a thread, after those of the line that were read, or what is wrong with it
 abbrev pub ReadsName : Bool → List (List ℕ) → List ℕ → Result (List ℕ) Refusal → Type 0
-ReadsName more had word (Ok name) = (name ≡ word) × ((had ≡ []) ⊎ (more ≡ true)) × (length had < most_threads) × IsThreadName word × ((k : ℕ) → slice_get had k ≢ Some word)
+ReadsName more had word (Ok name) = (name ≡ word) × ((had ≡ []) ⊎ (more ≡ true)) × (length had < most_threads)
+    × IsThreadName word × ((k : ℕ) → slice_get had k ≢ Some word)
 ReadsName more had word (Err refusal) = ((had ≢ []) × (more ≡ false) × (refusal ≡ NotServed))
     ⊎ (((had ≡ []) ⊎ (more ≡ true)) × (most_threads ≤ length had) × (refusal ≡ TooMany))
     ⊎ (((had ≡ []) ⊎ (more ≡ true)) × (length had < most_threads) × (IsThreadName word → ⊥) × (refusal ≡ Spelling))
-    ⊎ (((had ≡ []) ⊎ (more ≡ true)) × (length had < most_threads) × IsThreadName word × (k : ℕ) × (slice_get had k ≡ Some word) × (refusal ≡ ThreadsAgain))
+    ⊎ (((had ≡ []) ⊎ (more ≡ true)) × (length had < most_threads) × IsThreadName word × (k : ℕ)
+    × (slice_get had k ≡ Some word) × (refusal ≡ ThreadsAgain))
 
 -- the word may stand as a name there, or what is wrong with it
 abbrev pub IsNameJudged : Bool → List (List ℕ) → List ℕ → Result (Unit {0}) Refusal → Type 0
@@ -94,19 +96,24 @@ pub record AreThreadNames (words : List (List ℕ)) : Type 0 where
 -- the names of the words, after those that were read
 abbrev pub ReadsNames : Bool → List (List ℕ) → List (List ℕ) → Result Act Refusal → Type 0
 ReadsNames more had [] result = ((had ≡ []) × (result ≡ Err Spelling)) ⊎ ((had ≢ []) × (result ≡ Ok act.Threads))
-ReadsNames more had (word ∷ words) result = ((refusal : Refusal) × ReadsName more had word (Err refusal) × (result ≡ Err refusal))
+ReadsNames more had (word ∷ words) result =
+    ((refusal : Refusal) × ReadsName more had word (Err refusal) × (result ≡ Err refusal))
     ⊎ ((name : List ℕ) × ReadsName more had word (Ok name) × ReadsNames more (had ++ word ∷ []) words result)
 
 -- a line that names the threads: it stands before any pool line, once
 abbrev pub ThreadsLine : Bool → Context → List (List ℕ) → Result Act Refusal → Type 0
-ThreadsLine more before words result = ((before.names ≡ []) × (before.pools ≡ []) × ReadsNames more [] (drop 1 words) result)
+ThreadsLine more before words result =
+    ((before.names ≡ []) × (before.pools ≡ []) × ReadsNames more [] (drop 1 words) result)
     ⊎ (((before.names ≢ []) ⊎ (before.pools ≢ [])) × (result ≡ Err ThreadsAgain))
 
 -- the options of a pool line
 abbrev pub PoolOptions : Bool → ℕ → List (List ℕ) → ℕ → Result Act Refusal → Type 0
-PoolOptions more pool words at result = ((refusal : Refusal) × ReadsOptions [] (drop at words) (Err refusal) × (result ≡ Err refusal))
-    ⊎ ((options : List PoolOption) × ReadsOptions [] (drop at words) (Ok options) × ((more ≡ true) ⊎ IsPlainPool pool options) × (result ≡ Ok (act.Pool pool)))
-    ⊎ ((options : List PoolOption) × ReadsOptions [] (drop at words) (Ok options) × (more ≡ false) × (IsPlainPool pool options → ⊥) × (result ≡ Err NotServed))
+PoolOptions more pool words at result =
+    ((refusal : Refusal) × ReadsOptions [] (drop at words) (Err refusal) × (result ≡ Err refusal))
+    ⊎ ((options : List PoolOption) × ReadsOptions [] (drop at words) (Ok options)
+    × ((more ≡ true) ⊎ IsPlainPool pool options) × (result ≡ Ok (act.Pool pool)))
+    ⊎ ((options : List PoolOption) × ReadsOptions [] (drop at words) (Ok options) × (more ≡ false)
+    × (IsPlainPool pool options → ⊥) × (result ≡ Err NotServed))
 
 -- any number
 abbrev pub AnyNumber : List ℕ → Result ℕ Refusal → Type 0
@@ -138,7 +145,8 @@ binds ExitWord = false
 -- the word of a call that binds a name, or of one that binds none
 abbrev pub ReadsCallWord : Bool → List ℕ → Result CallWord Refusal → Type 0
 ReadsCallWord binding word (Ok call) = (word ≡ call_text call) × (binds call ≡ binding)
-ReadsCallWord binding word (Err refusal) = ((call : CallWord) → binds call ≡ binding → word ≢ call_text call) × (refusal ≡ Spelling)
+ReadsCallWord binding word (Err refusal) = ((call : CallWord) → binds call ≡ binding → word ≢ call_text call)
+    × (refusal ≡ Spelling)
 
 -- what follows the word of a call that binds a name
 abbrev pub BindingCall : Bool → Context → ℕ → CallWord → List (List ℕ) → ℕ → Result TraceCall Refusal → Type 0
@@ -162,7 +170,8 @@ NamedCall more before = Then (ReadsNewName before) (λ name words at. Then (Read
 
 -- a call: it binds a name where its second word is `=`
 abbrev pub ReadsCall : Bool → Context → List (List ℕ) → ℕ → Result TraceCall Refusal → Type 0
-ReadsCall more before words at result = ((slice_get words (at + 1) ≡ Some (codes "=")) × NamedCall more before words at result)
+ReadsCall more before words at result =
+    ((slice_get words (at + 1) ≡ Some (codes "=")) × NamedCall more before words at result)
     ⊎ ((slice_get words (at + 1) ≢ Some (codes "=")) × Then (ReadsCallWord false) (PlainCall before) words at result)
 
 -- a row's name
@@ -194,10 +203,15 @@ Calls words call = ((slice_get words 3 ≡ Some (codes "=")) × (slice_get words
 -- what the words of a line are read as
 abbrev pub ReadsWords : Forms → Context → List (List ℕ) → Result Act Refusal → Type 0
 ReadsWords forms before words result =
-    ((key : Keyword) × (slice_get words 0 ≡ Some (keyword_text key)) × (serves_keyword forms key ≡ true) × KeywordLine (serves_more forms) before key words result)
-    ⊎ ((key : Keyword) × (slice_get words 0 ≡ Some (keyword_text key)) × (serves_keyword forms key ≡ false) × (result ≡ Err NotServed))
-    ⊎ (((key : Keyword) → slice_get words 0 ≢ Some (keyword_text key)) × (call : CallWord) × Calls words call × (serves_call forms call ≡ false) × (result ≡ Err NotServed))
-    ⊎ (((key : Keyword) → slice_get words 0 ≢ Some (keyword_text key)) × ((call : CallWord) → Calls words call → serves_call forms call ≡ true) × CallLine (serves_more forms) before words result)
+    ((key : Keyword) × (slice_get words 0 ≡ Some (keyword_text key)) × (serves_keyword forms key ≡ true)
+    × KeywordLine (serves_more forms) before key words result)
+    ⊎ ((key : Keyword) × (slice_get words 0 ≡ Some (keyword_text key)) × (serves_keyword forms key ≡ false)
+    × (result ≡ Err NotServed))
+    ⊎ (((key : Keyword) → slice_get words 0 ≢ Some (keyword_text key)) × (call : CallWord) × Calls words call
+    × (serves_call forms call ≡ false) × (result ≡ Err NotServed))
+    ⊎ (((key : Keyword) → slice_get words 0 ≢ Some (keyword_text key))
+    × ((call : CallWord) → Calls words call → serves_call forms call ≡ true)
+    × CallLine (serves_more forms) before words result)
 
 -- the number of the name that the call binds
 abbrev pub bound_by : TraceCall → Option ℕ
@@ -228,7 +242,8 @@ with_pool before options = record before { pools = before.pools ++ options ∷ [
 -- that makes a whole call, and the fourth of one that begins one.
 abbrev pub Enters : Context → List (List ℕ) → Act → Context → Type 0
 Enters before words act.Threads next = next ≡ record before { names = drop 1 words }
-Enters before words (act.Pool pool) next = (options : ArrayVec PoolOption) × ReadsOptions [] (drop 2 words) (Ok options.items) × (next ≡ with_pool before options)
+Enters before words (act.Pool pool) next = (options : ArrayVec PoolOption)
+    × ReadsOptions [] (drop 2 words) (Ok options.items) × (next ≡ with_pool before options)
 Enters before words (act.Call thread pool call) next = next ≡ with_bound before (bound_by call) (word_in words 2)
 Enters before words (act.Begin thread pool call) next = next ≡ with_bound before (bound_by call) (word_in words 3)
 Enters before words (act.RawGet pool base bytes) next = next ≡ before
@@ -249,7 +264,8 @@ MayBind before (Some number) word = (number ≡ before.count) × IsBoundName wor
 -- what is known of a line that was read and does this
 abbrev pub MayEnter : Context → List (List ℕ) → Act → Type 0
 MayEnter before words act.Threads = AreThreadNames (drop 1 words) × (0 < length words)
-MayEnter before words (act.Pool pool) = (1 < length words) × ((options : List PoolOption) × ReadsOptions [] (drop 2 words) (Ok options))
+MayEnter before words (act.Pool pool) = (1 < length words)
+    × ((options : List PoolOption) × ReadsOptions [] (drop 2 words) (Ok options))
 MayEnter before words (act.Call thread pool call) = MayBind before (bound_by call) (word_in words 2)
 MayEnter before words (act.Begin thread pool call) = MayBind before (bound_by call) (word_in words 3)
 MayEnter before words other = Unit {0}

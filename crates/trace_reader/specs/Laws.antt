@@ -46,13 +46,15 @@ NamesAreBoundInTurn =
 abbrev pub NumbersAreNames : Type 0
 NumbersAreNames =
     AreNumberedNames nothing_yet
-    × ((forms : Forms) (before next : Context) (words : List (List ℕ)) (act : Act) → ReadsWords forms before words (Ok act) →
+    × ((forms : Forms) (before next : Context) (words : List (List ℕ)) (act : Act)
+    → ReadsWords forms before words (Ok act) →
     Enters before words act next → AreNumberedNames before → AreNumberedNames next)
 
 -- the text of a place is read as that place, and as nothing else
 abbrev pub PlacesAreReadBack : Type 0
 PlacesAreReadBack =
-    (place : Place) (result : Option Place) → IsWritable place → IsPlaceOf (place_text place) result → result ≡ Some place
+    (place : Place) (result : Option Place) → IsWritable place → IsPlaceOf (place_text place) result
+    → result ≡ Some place
 
 -- the name of a row is read as that row, and as nothing else
 abbrev pub RowsAreReadBack : Type 0

@@ -16,7 +16,8 @@ may_follow first byte = is_letter first byte || ((nat_le 48 byte && nat_lt byte 
 -- a letter, and then fewer than so many letters, digits and `_`
 abbrev pub is_name : ℕ → ℕ → List ℕ → Bool
 is_name first most [] = false
-is_name first most (letter ∷ more) = is_letter first letter && (nat_lt (length more) most && list_all (may_follow first) more)
+is_name first most (letter ∷ more) = is_letter first letter
+    && (nat_lt (length more) most && list_all (may_follow first) more)
 
 -- a thread's name has capital letters and at most 8 bytes
 abbrev pub IsThreadName : List ℕ → Type 0

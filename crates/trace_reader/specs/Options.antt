@@ -40,7 +40,8 @@ option_of ReservedValue n = Reserved n
 
 -- the option that the word is, or that it is none without a number
 abbrev pub IsFlagOf : List ℕ → Option PoolOption → Type 0
-IsFlagOf word (Some option) = ((word ≡ codes "fixed") × (option ≡ Fixed)) ⊎ ((word ≡ codes "keep") × (option ≡ Keep)) ⊎ ((word ≡ codes "noget") × (option ≡ NoGet)) ⊎ ((word ≡ codes "nofree") × (option ≡ NoFree))
+IsFlagOf word (Some option) = ((word ≡ codes "fixed") × (option ≡ Fixed)) ⊎ ((word ≡ codes "keep") × (option ≡ Keep))
+    ⊎ ((word ≡ codes "noget") × (option ≡ NoGet)) ⊎ ((word ≡ codes "nofree") × (option ≡ NoFree))
 IsFlagOf word None = (word ≢ codes "fixed") × (word ≢ codes "keep") × (word ≢ codes "noget") × (word ≢ codes "nofree")
 
 -- the word in front of a number, and the number's text, or that the word has none of these fronts
@@ -51,9 +52,13 @@ IsValueOf word None = (value : ValueWord) (rest : List ℕ) → word ≢ value_t
 -- an option of a pool
 abbrev pub ReadsOption : List ℕ → Result PoolOption Refusal → Type 0
 ReadsOption word result = ((option : PoolOption) × IsFlagOf word (Some option) × (result ≡ Ok option))
-    ⊎ ((value : ValueWord) × (n : ℕ) × (word ≡ value_text value ++ decimal n) × (n < value_limit value) × (result ≡ Ok (option_of value n)))
-    ⊎ ((value : ValueWord) × (rest : List ℕ) × (word ≡ value_text value ++ rest) × ((n : ℕ) → n < value_limit value → rest ≢ decimal n) × (is_text word ≡ true) × (result ≡ Err Number))
-    ⊎ (IsFlagOf word None × ((value : ValueWord) (rest : List ℕ) → word ≡ value_text value ++ rest → is_text word ≡ false) × (result ≡ Err Spelling))
+    ⊎ ((value : ValueWord) × (n : ℕ) × (word ≡ value_text value ++ decimal n) × (n < value_limit value)
+    × (result ≡ Ok (option_of value n)))
+    ⊎ ((value : ValueWord) × (rest : List ℕ) × (word ≡ value_text value ++ rest)
+    × ((n : ℕ) → n < value_limit value → rest ≢ decimal n) × (is_text word ≡ true) × (result ≡ Err Number))
+    ⊎ (IsFlagOf word None
+    × ((value : ValueWord) (rest : List ℕ) → word ≡ value_text value ++ rest → is_text word ≡ false)
+    × (result ≡ Err Spelling))
 
 -- the place of an option in the list of options
 abbrev pub option_place : PoolOption → ℕ
@@ -76,7 +81,8 @@ abbrev pub ReadsOptions : List PoolOption → List (List ℕ) → Result (List P
 ReadsOptions had [] result = result ≡ Ok had
 ReadsOptions had (word ∷ words) result = ((refusal : Refusal) × ReadsOption word (Err refusal) × (result ≡ Err refusal))
     ⊎ ((option : PoolOption) × ReadsOption word (Ok option) × (has_option had option ≡ true) × (result ≡ Err PoolOrder))
-    ⊎ ((option : PoolOption) × ReadsOption word (Ok option) × (has_option had option ≡ false) × ReadsOptions (had ++ option ∷ []) words result)
+    ⊎ ((option : PoolOption) × ReadsOption word (Ok option) × (has_option had option ≡ false)
+    × ReadsOptions (had ++ option ∷ []) words result)
 
 -- the options that the words spell, or the first of them that is refused
 abbrev pub IsReadAsOptions : List (List ℕ) → Result (ArrayVec PoolOption) Refusal → Type 0

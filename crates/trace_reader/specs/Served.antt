@@ -58,7 +58,8 @@ abbrev pub AreServed : List ThreadName → List (ArrayVec PoolOption) → List A
 AreServed names pools acts = ((names ≡ []) × (pools ≡ []) × (acts ≡ []))
     ⊎ ((name : ThreadName) × (names ≡ name ∷ []) × (pools ≡ []) × (acts ≡ act.Threads ∷ []))
     ⊎ ((names ≡ []) × (pools ≡ plain_options ∷ []) × (acts ≡ plain_pool ∷ []))
-    ⊎ ((name : ThreadName) × (calls : List Act) × (names ≡ name ∷ []) × (pools ≡ plain_options ∷ []) × (acts ≡ act.Threads ∷ plain_pool ∷ calls) × AreServedCalls calls)
+    ⊎ ((name : ThreadName) × (calls : List Act) × (names ≡ name ∷ []) × (pools ≡ plain_options ∷ [])
+    × (acts ≡ act.Threads ∷ plain_pool ∷ calls) × AreServedCalls calls)
 
 -- what a line does
 abbrev pub act_of : TraceLine → Act
@@ -72,7 +73,8 @@ AreNumbered least (line ∷ lines) = (least ≤ line.line) × (line.line ≤ mos
 -- the numbers of the names that were bound lie below their count, and no two names have one number
 pub record AreNumberedNames (before : Context) : Type 0 where
   pub counted : (word : List ℕ) (number : ℕ) → before.bound word ≡ Some number → number < before.count
-  pub apart : (one other : List ℕ) (number : ℕ) → before.bound one ≡ Some number → before.bound other ≡ Some number → one ≡ other
+  pub apart : (one other : List ℕ) (number : ℕ) → before.bound one ≡ Some number → before.bound other ≡ Some number
+      → one ≡ other
 
 -- what the call is asked of
 abbrev pub asked_of : TraceCall → Option What
@@ -119,4 +121,5 @@ after_call count (Some call) = count_with count (bound_by call)
 -- after lines that bound so many names, each line asks for names that earlier lines bound, and binds the name that comes next
 abbrev pub AreBoundInTurn : ℕ → List Act → Type 0
 AreBoundInTurn count [] = Unit {0}
-AreBoundInTurn count (act ∷ acts) = IsBoundInTurn count (call_in act) × AreBoundInTurn (after_call count (call_in act)) acts
+AreBoundInTurn count (act ∷ acts) = IsBoundInTurn count (call_in act)
+    × AreBoundInTurn (after_call count (call_in act)) acts

@@ -50,7 +50,8 @@ IsPositionOf names name None = (k : ℕ) → slice_get names k ≢ Some name
 -- a thread
 abbrev pub ReadsThread : Context → List ℕ → Result ℕ Refusal → Type 0
 ReadsThread before word (Ok thread) = IsThreadName word × IsFirstAt before.names word thread
-ReadsThread before word (Err refusal) = (IsThreadName word × ((k : ℕ) → slice_get before.names k ≢ Some word) × (refusal ≡ UnknownThread))
+ReadsThread before word (Err refusal) =
+    (IsThreadName word × ((k : ℕ) → slice_get before.names k ≢ Some word) × (refusal ≡ UnknownThread))
     ⊎ ((IsThreadName word → ⊥) × (refusal ≡ Spelling))
 
 -- the word of a pool
@@ -65,15 +66,20 @@ IsPoolOf word None = (pool : ℕ) → pool < most_pools → word ≢ pool_text p
 -- a pool that was made
 abbrev pub ReadsPool : Context → List ℕ → Result ℕ Refusal → Type 0
 ReadsPool before word (Ok pool) = (word ≡ pool_text pool) × (pool < most_pools) × (pool < length before.pools)
-ReadsPool before word (Err refusal) = ((pool : ℕ) × (word ≡ pool_text pool) × (pool < most_pools) × (length before.pools ≤ pool) × (refusal ≡ UnknownPool))
+ReadsPool before word (Err refusal) =
+    ((pool : ℕ) × (word ≡ pool_text pool) × (pool < most_pools) × (length before.pools ≤ pool)
+    × (refusal ≡ UnknownPool))
     ⊎ (((pool : ℕ) → pool < most_pools → word ≢ pool_text pool) × (refusal ≡ Spelling))
 
 -- the next pool
 abbrev pub ReadsNextPool : Context → List ℕ → Result ℕ Refusal → Type 0
-ReadsNextPool before word (Ok pool) = (length before.pools < most_pools) × (pool ≡ length before.pools) × (word ≡ pool_text pool)
+ReadsNextPool before word (Ok pool) = (length before.pools < most_pools) × (pool ≡ length before.pools)
+    × (word ≡ pool_text pool)
 ReadsNextPool before word (Err refusal) = ((most_pools ≤ length before.pools) × (refusal ≡ TooMany))
-    ⊎ ((length before.pools < most_pools) × (pool : ℕ) × (word ≡ pool_text pool) × (pool < most_pools) × (pool ≢ length before.pools) × (refusal ≡ PoolOrder))
-    ⊎ ((length before.pools < most_pools) × ((pool : ℕ) → pool < most_pools → word ≢ pool_text pool) × (refusal ≡ Spelling))
+    ⊎ ((length before.pools < most_pools) × (pool : ℕ) × (word ≡ pool_text pool) × (pool < most_pools)
+    × (pool ≢ length before.pools) × (refusal ≡ PoolOrder))
+    ⊎ ((length before.pools < most_pools) × ((pool : ℕ) → pool < most_pools → word ≢ pool_text pool)
+    × (refusal ≡ Spelling))
 
 -- a name that is bound here, by its number, which is the next one
 abbrev pub ReadsNewName : Context → List ℕ → Result ℕ Refusal → Type 0
@@ -105,4 +111,5 @@ ReadsWhat before word (Ok what.Null) = word ≡ codes "null"
 ReadsWhat before word (Ok (what.Name number)) = IsBoundName word × (before.bound word ≡ Some number)
 ReadsWhat before word (Ok (what.Place place)) = (word ≡ place_text place) × IsWritable place
 ReadsWhat before word (Err refusal) = (IsBoundName word × (before.bound word ≡ None) × (refusal ≡ UnboundName))
-    ⊎ ((word ≢ codes "null") × (IsBoundName word → ⊥) × ((place : Place) → IsWritable place → word ≢ place_text place) × (refusal ≡ Spelling))
+    ⊎ ((word ≢ codes "null") × (IsBoundName word → ⊥) × ((place : Place) → IsWritable place → word ≢ place_text place)
+    × (refusal ≡ Spelling))

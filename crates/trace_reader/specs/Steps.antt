@@ -15,12 +15,14 @@ use Rattle.trace_reader.specs.Text.{ReadsLine, RefusesLine, SpellsTrace}
 -- what a line that was read makes of the lines before it, and of what stands before
 abbrev pub StepsTo : ℕ → List ℕ → Context → List TraceLine → Option Act → Context → List TraceLine → Type 0
 StepsTo number text before lines None next more = (next ≡ before) × (more ≡ lines)
-StepsTo number text before lines (Some act) next more = Enters before (words_of text) act next × (more ≡ lines ++ record { line = number; act = act } ∷ [])
+StepsTo number text before lines (Some act) next more = Enters before (words_of text) act next
+    × (more ≡ lines ++ record { line = number; act = act } ∷ [])
 
 -- one more line is read, or refused
 abbrev pub AddsLine : Forms → ℕ → List ℕ → Context → List TraceLine → Option Refusal → Context → List TraceLine → Type 0
 AddsLine forms number text before lines (Some refusal) next more = ReadsLine forms before number text (Err refusal)
-AddsLine forms number text before lines None next more = (result : Option Act) × ReadsLine forms before number text (Ok result) × StepsTo number text before lines result next more
+AddsLine forms number text before lines None next more = (result : Option Act)
+    × ReadsLine forms before number text (Ok result) × StepsTo number text before lines result next more
 
 -- what the whole text is read as
 abbrev pub IsOutcome : Forms → List ℕ → kept.Outcome → Type 0

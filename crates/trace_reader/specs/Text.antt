@@ -29,8 +29,10 @@ ReadsLine forms before number text result =
     ((most_line_bytes < length text) × (result ≡ Err TooLong))
     ⊎ ((length text ≤ most_line_bytes) × (most_lines < number) × (result ≡ Err TooMany))
     ⊎ ((length text ≤ most_line_bytes) × (number ≤ most_lines) × (is_skipped text ≡ true) × (result ≡ Ok None))
-    ⊎ ((length text ≤ most_line_bytes) × (number ≤ most_lines) × (is_skipped text ≡ false) × (refusal : Refusal) × ReadsWords forms before (words_of text) (Err refusal) × (result ≡ Err refusal))
-    ⊎ ((length text ≤ most_line_bytes) × (number ≤ most_lines) × (is_skipped text ≡ false) × (act : Act) × ReadsWords forms before (words_of text) (Ok act) × (result ≡ Ok (Some act)))
+    ⊎ ((length text ≤ most_line_bytes) × (number ≤ most_lines) × (is_skipped text ≡ false) × (refusal : Refusal)
+    × ReadsWords forms before (words_of text) (Err refusal) × (result ≡ Err refusal))
+    ⊎ ((length text ≤ most_line_bytes) × (number ≤ most_lines) × (is_skipped text ≡ false) × (act : Act)
+    × ReadsWords forms before (words_of text) (Ok act) × (result ≡ Ok (Some act)))
 
 -- what a text is read as: its lines, the names of its threads and the options of its pools, or its first refused line and what is wrong
 -- with it
@@ -45,11 +47,13 @@ behind lines (FirstRefused line refusal) = FirstRefused line refusal
 
 -- what the lines from this number on are read as, where the last part of the text has no newline
 abbrev pub ReadsLines : Forms → Context → ℕ → List (List ℕ) → List ℕ → Outcome → Type 0
-ReadsLines forms before number [] last outcome = ((last ≡ []) × (outcome ≡ AllRead [] before.names before.pools)) ⊎ ((last ≢ []) × (outcome ≡ FirstRefused number NoNewline))
+ReadsLines forms before number [] last outcome = ((last ≡ []) × (outcome ≡ AllRead [] before.names before.pools))
+    ⊎ ((last ≢ []) × (outcome ≡ FirstRefused number NoNewline))
 ReadsLines forms before number (text ∷ texts) last outcome =
     ((refusal : Refusal) × ReadsLine forms before number text (Err refusal) × (outcome ≡ FirstRefused number refusal))
     ⊎ (ReadsLine forms before number text (Ok None) × ReadsLines forms before (number + 1) texts last outcome)
-    ⊎ ((act : Act) × (next : Context) × (rest : Outcome) × ReadsLine forms before number text (Ok (Some act)) × Enters before (words_of text) act next × ReadsLines forms next (number + 1) texts last rest
+    ⊎ ((act : Act) × (next : Context) × (rest : Outcome) × ReadsLine forms before number text (Ok (Some act))
+    × Enters before (words_of text) act next × ReadsLines forms next (number + 1) texts last rest
     × (outcome ≡ behind (record { line = number; act = act } ∷ []) rest))
 
 -- before the first line nothing is named, made or bound
@@ -78,5 +82,6 @@ RefusesLine forms bytes line refusal = IsReadAs forms bytes (FirstRefused line r
 -- what reading a trace answers
 abbrev pub ReadsTrace : Forms → List ℕ → Result Trace TraceRefused → Type 0
 ReadsTrace forms bytes (Ok trace) = SpellsTrace forms bytes trace
-ReadsTrace forms bytes (Err (Bad error)) = (refusal : Refusal) × RefusesLine forms bytes error.line refusal × (error.kind ≡ refusal_kind refusal)
+ReadsTrace forms bytes (Err (Bad error)) = (refusal : Refusal) × RefusesLine forms bytes error.line refusal
+    × (error.kind ≡ refusal_kind refusal)
 ReadsTrace forms bytes (Err NoMemory) = Unit {0}

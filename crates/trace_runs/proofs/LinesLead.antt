@@ -1,5 +1,5 @@
 -- Lines that were run lead on to what the later ones come to.
-use Rattle.std.proofs.Common.{◌≡◌, ℕ, List, [], ◌∷◌, refl, ap}
+use Rattle.std.proofs.Common.{ℕ, List, [], ◌∷◌, refl, ap}
 use Rattle.std.specs.Prelude.{Result, Ok, Err}
 use Rattle.trace_reader.specs.declared.acts.TraceLine.{TraceLine}
 use Rattle.trace_reader.specs.declared.trace.Trace.{Trace}

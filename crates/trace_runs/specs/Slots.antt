@@ -37,7 +37,8 @@ abbrev pub SlotDestroys : Option Pool → ℕ → ℕ → Book → Option Pool �
 SlotDestroys None line number book new last = (new ≡ None) × (last ≡ noted book (entry.Gone line))
 SlotDestroys (Some pool) line number book new last = Destroys line number pool book new last
 
-abbrev pub SlotsDestroyBy : Option (Option Pool) → ℕ → ℕ → List (Option Pool) → Book → List (Option Pool) → Book → Type 0
+abbrev pub SlotsDestroyBy : Option (Option Pool) → ℕ → ℕ → List (Option Pool) → Book → List (Option Pool) → Book
+    → Type 0
 SlotsDestroyBy None line number pools book new last = (new ≡ pools) × (last ≡ noted book (entry.Gone line))
 SlotsDestroyBy (Some slot) line number pools book new last =
     (left : Option Pool) × SlotDestroys slot line number book left last × (new ≡ slice_set pools number left)

@@ -14,4 +14,6 @@ mod state;
 mod tests;
 
 pub use ends::Summary;
+pub use lines::{judged, options_of};
 pub use runs::{RunError, run_lines, sum_lines};
+pub use scripts::script_of;

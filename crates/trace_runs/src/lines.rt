@@ -53,7 +53,7 @@ pub(crate) fn deed_of(act: &Act) -> Deed
 }
 
 /// The options of the pool of this number.
-fn options_of(trace: &Trace, pool: u16) -> &[PoolOption]
+pub fn options_of(trace: &Trace, pool: u16) -> &[PoolOption]
     ensures { result.now ≡ options_of trace.now pool }
 {
     match trace.pools().get(usize::from(pool)) {
@@ -70,7 +70,7 @@ fn seats_of(trace: &Trace) -> u8
 }
 
 /// How the making of the pool is judged.
-fn judged(trace: &Trace, pool: u16) -> Result<(), CreateError>
+pub fn judged(trace: &Trace, pool: u16) -> Result<(), CreateError>
     ensures { Checks (pool_policy (options_of trace.now pool))
         (pool_limits pool (length trace.now.names.items) (options_of trace.now pool)) result }
 {

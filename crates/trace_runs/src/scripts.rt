@@ -64,11 +64,7 @@ fn puts_of(alloc: Global, pool: u16, lines: &[TraceLine]) -> Result<Vec<bool>, A
 
 /// The callback of a pool, as the lines have it.
 #[tactic(auto, unfolding(crate::specs::Scripts::script_of))]
-pub(crate) fn script_of(
-    alloc: Global,
-    pool: u16,
-    lines: &[TraceLine],
-) -> Result<ScriptedRaw, AllocError>
+pub fn script_of(alloc: Global, pool: u16, lines: &[TraceLine]) -> Result<ScriptedRaw, AllocError>
     ensures raw { IfOk result (λ raw. raw ≡ script_of pool lines.now) }
     ensures out { IfOk result (λ raw. raw.out ≡ []) }
 {

@@ -4,12 +4,13 @@
 ghost use Rattle.std.specs.Prelude.{◌≡◌};
 ghost use Rattle.word_codes.specs.Guards.{guard_of, guard_word};
 
+/// A guard (a boundary tag): what it says of the block that begins or ends there.
 #[derive(Clone, Copy)]
 pub enum Guard {
     Used,
     /// The block is being joined to its neighbours, or waits for that in the queue.
     Coalescing,
-    /// A region ends here.
+    /// A region ends here (a sentinel).
     Wall,
     /// A free block of so many granules.
     Free(u64),

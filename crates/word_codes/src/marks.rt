@@ -9,6 +9,7 @@ ghost use Rattle.word_codes.specs.Marks.{mark_of, mark_word, private_link, publi
 use crate::publics::Public;
 use pool_types::Grant;
 
+/// A mark: the tag of a live object, or what is said where no object is held.
 #[derive(Clone, Copy)]
 pub enum Mark {
     /// No object that was ever handed out begins here.

@@ -56,12 +56,6 @@ pub publics-changed : (links : ℕ → Link) (publics : ℕ → Public) (listed 
 publics-changed links publics listed e public us here fit =
     both (λ c. IsPublicChain links) publics listed e public us (λ c ne. fit c) here
 
-pub public-same : (links other : ℕ → Link) (public : Public) (us : List ℕ)
-    → ((u : ℕ) → 0 < tally u us → other u ≡ links u) → IsPublicChain links public us → IsPublicChain other public us
-public-same links other Public.Null us same chain = chain
-public-same links other Public.Unusable us same chain = chain
-public-same links other (Public.Filled v) us same (end, chain) = (end, leads-same links other (To v) us (Ends end) same chain)
-
 -- an object that leads to what was found goes in front of it
 pub public-pushed : (links : ℕ → Link) (found : Public) (us : List ℕ) (u : ℕ) → links u ≡ public_link_to found
     → IsPublicChain links found us → IsPublicChain links (Public.Filled u) (u ∷ us)
@@ -79,10 +73,6 @@ chain-starts links u [] end chain = absurd (cc)
 chain-starts links u (x ∷ us) end (first, chain) =
     let same : u ≡ x = cc in
     (ap (λ y. y ∷ us) (sym same), subst (λ y. IsChain links (links y) us end) (sym same) chain)
-
-pub chain-empty : (links : ℕ → Link) (us : List ℕ) (which end : ℕ) → IsChain links (Ends which) us end → us ≡ []
-chain-empty links [] which end chain = refl
-chain-empty links (x ∷ us) which end (first, chain) = absurd (cc)
 
 -- what the mark of an item of a chain says: it leads to the item behind it, or ends
 pub data Ahead (link : Link) (back : List ℕ) : Type 0 where

@@ -25,9 +25,6 @@ out-cases (Held.InHand t) = inl tt
 out-cases (Held.Ready t x n) = inr (λ e. e)
 out-cases (Held.Large gr x n) = inr (λ e. e)
 
-pub out-is : (h other : Held) → h ≡ other → IsOut other → IsOut h
-out-is h other e o = subst IsOut (sym e) o
-
 pub out-not : (h other : Held) → h ≡ other → (IsOut other → ⊥) → IsOut h → ⊥
 out-not h other e none o = none (subst IsOut e o)
 

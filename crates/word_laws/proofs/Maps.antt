@@ -1,7 +1,8 @@
 -- A function with one value changed.
-use Rattle.std.proofs.Common.{◌≡◌, ◌≢◌, ℕ, eqb, cond, refl, sym, subst, arith}
+use Rattle.std.proofs.Common.{◌≡◌, ◌≢◌, ℕ, refl, sym, subst}
 use Rattle.word_laws.specs.Memory.{put}
-use Rattle.word_laws.proofs.CallerLemmas.{put_here, put_else, equal_or}
+use Rattle.word_laws.proofs.Rows.{equal_or}
+use Rattle.word_laws.proofs.Puts.{put_here, put_else}
 
 pub put-same : {A : Type 0} (f : ℕ → A) (i : ℕ) (a : A) → put f i a i ≡ a
 put-same f i a = put_here f i i a refl
