@@ -31,7 +31,8 @@ def mallocs(most):
 
 
 def frees(most, held):
-    """A trace of LINES mallocs, of 1 to `most` bytes each, and frees in random order, with up to `held` names to be freed."""
+    """A trace of LINES mallocs, of 1 to `most` bytes each, and frees in random order, with up to `held` names to be
+    freed."""
     numbers = draws(1)
     names = []
     lines = ["threads A", "pool P0 fixed"]
@@ -46,21 +47,24 @@ def frees(most, held):
     return "\n".join(lines) + "\n"
 
 
-def calls(most, held, threads):
-    """A trace of LINES whole calls on a growing pool, by so many threads in turn: mallocs of 1 to `most` bytes until
-    `held` objects are held, and then in turn a free of one of them and a malloc."""
+def calls(most, held, threads, pools=1):
+    """A trace of LINES lines, less those that make further pools: whole calls on growing pools, by so many threads in
+    turn, each on one pool. They are mallocs of 1 to `most` bytes until `held` objects are held, and then in turn a free
+    of one of them and a malloc."""
     numbers = draws(1)
     names = []
-    lines = ["threads " + " ".join(f"T{i}" for i in range(threads)), "pool P0"]
-    for i in range(LINES):
-        thread = f"T{i % threads}"
+    lines = ["threads " + " ".join(f"T{i}" for i in range(threads))]
+    lines += [f"pool P{i}" for i in range(pools)]
+    for i in range(LINES + 1 - pools):
+        thread, pool = f"T{i % threads}", f"P{i % threads % pools}"
         if len(names) >= held:
             k = next(numbers) % len(names)
             names[k], names[-1] = names[-1], names[k]
-            lines.append(f"{thread} P0 free {names.pop()}")
+            pool, name = names.pop()
+            lines.append(f"{thread} {pool} free {name}")
         else:
-            lines.append(f"{thread} P0 v{i} = malloc {1 + next(numbers) % most}")
-            names.append(f"v{i}")
+            lines.append(f"{thread} {pool} v{i} = malloc {1 + next(numbers) % most}")
+            names.append((pool, f"v{i}"))
     return "\n".join(lines) + "\n"
 
 
@@ -100,7 +104,9 @@ def main():
         ("mallocs of 1 to 8128 and frees, a full pool", frees(8128, 20000)),
         ("machines: calls of 1 to 2000 bytes, 3000 held", calls(2000, 3000, 1)),
         ("machines: calls of 1 to 100000 bytes, 60 held", calls(100000, 60, 1)),
-        ("machines: calls of 1 to 2000 bytes, 3000 held, 64 threads", calls(2000, 3000, 64)),
+        ("machines: calls of 1 to 64 bytes, 3000 held, 64 threads", calls(64, 3000, 64)),
+        ("machines: calls of 1 to 2000 bytes, 3000 held, 64 threads on 8 pools", calls(2000, 3000, 64, 8)),
+        ("machines: calls of 1 to 2000 bytes, 3000 held, 64 threads, more than fits", calls(2000, 3000, 64)),
     ]
     for name, text in cases:
         seconds, used, status, report, peak = run(program, text)

@@ -1,5 +1,7 @@
 -- Entries of parts.
-use Rattle.std.proofs.Common.{◌≡◌, ◌<◌, ◌≤◌, ℕ, [], ◌∷◌, ◌++◌, List, length, take, drop, refl, arith}
+use Rattle.std.proofs.Common.{◌≡◌, ◌<◌, ℕ, [], ◌∷◌, ◌++◌, List, length, take, drop, refl, arith}
+use Rattle.std.specs.Prelude.{slice_set}
+use Rattle.std.proofs.Math.Seq.{set-append_seam}
 use Rattle.part_model.specs.declared.journal.Journaled.{Journaled}
 use Rattle.part_model.specs.declared.moves.Part.{Part}
 use Rattle.step_parts.specs.declared.journal.StepName.{StepName}
@@ -14,3 +16,8 @@ part_entries_first name entries (a ∷ []) some = refl
 part_entries_first name entries (a ∷ b ∷ []) some = refl
 part_entries_first name entries (a ∷ b ∷ c ∷ []) some = refl
 part_entries_first name entries (a ∷ b ∷ c ∷ d ∷ parts) some = refl
+
+-- the last entry is replaced where it lies
+pub last_replaced : (entries : List Journaled) (last other : Journaled) →
+    slice_set (entries ++ last ∷ []) (length entries) other ≡ entries ++ other ∷ []
+last_replaced entries last other = set-append_seam entries last [] other

@@ -1,6 +1,6 @@
 //! The journal's entries of one step, in room that is kept from step to step.
 
-ghost use Rattle.std.specs.Prelude.{◌≡◌, ◌≤◌, ◌<◌, OnOk, OnErr, IfOk, [], take, drop, length};
+ghost use Rattle.std.specs.Prelude.{◌≡◌, ◌≤◌, ◌<◌, ◌++◌, ◌∷◌, OnOk, OnErr, IfOk, [], take, drop, length};
 ghost use Rattle.std.specs.Prelude.{vec_capacity};
 ghost use Rattle.step_parts.specs.Journal.{most_parts, is_last_scan, looks_in, looks_at_bin, bare_entry, part_entry};
 ghost use Rattle.step_parts.specs.Journal.{book_entry, part_entries, book_entries, or_bare, with_signs};
@@ -10,8 +10,7 @@ use crate::moves::Moves;
 use arrayvec::ArrayVec;
 use backend_bins::ScanStep;
 use part_model::{Journaled, Part};
-use pool_types::{Answer, KeeperChange, RegionRec, Row};
-use size_classes::Class;
+use pool_types::{Answer, KeeperChange, Row};
 use std::alloc::{AllocError, Global};
 use std::marker::Model;
 use step_local::{At, Local, Tries};
@@ -98,15 +97,14 @@ fn bare_entry(name: StepName) -> Journaled
     }
 }
 
-/// The first of these parts, as many as an entry has room for.
-fn first_parts(parts: &[Part]) -> ArrayVec<Part, 4>
-    ensures { result.items ≡ take most_parts parts.now }
+/// Puts the first of these parts into an entry in place of its own, as many as it has room for.
+fn fill(entry: &mut Journaled, parts: &[Part])
+    ensures { entry.new ≡ record entry.old { parts = record { items = take most_parts parts.now } } }
 {
-    let mut few = ArrayVec::new();
+    entry.parts.clear();
     for part in &parts[..parts.len().min(MOST_PARTS)] {
-        few.push(*part);
+        entry.parts.push(*part);
     }
-    few
 }
 
 /// The parts behind them.
@@ -117,14 +115,21 @@ fn behind_first(parts: &[Part]) -> &[Part]
     &parts[parts.len().min(MOST_PARTS)..]
 }
 
-/// The entry of the first of these parts.
-fn part_entry(name: StepName, parts: &[Part]) -> Journaled
-    ensures { result ≡ part_entry name (take most_parts parts.now) }
+/// Adds the entry of the first of these parts. It is filled where it lies.
+#[tactic(auto, using(crate::proofs::Entries::last_replaced))]
+fn add_part_entry(
+    entries: &mut Vec<Journaled>,
+    name: StepName,
+    parts: &[Part],
+) -> Result<(), AllocError>
+    ensures items { OnOk result
+        (entries.new.items ≡ entries.old.items ++ part_entry name (take most_parts parts.now) ∷ []) }
+    ensures capacity { vec_capacity entries.old ≤ vec_capacity entries.new }
 {
-    Journaled {
-        parts: first_parts(parts),
-        ..bare_entry(name)
-    }
+    let last = entries.len();
+    entries.push(bare_entry(name))?;
+    fill(&mut entries[last], parts);
+    Ok(())
 }
 
 /// The entry of a slab that goes to another keeper.
@@ -149,7 +154,7 @@ fn add_part_entries(
 {
     let mut rest = parts;
     while !rest.is_empty() {
-        entries.push(part_entry(name, rest))?;
+        add_part_entry(entries, name, rest)?;
         rest = behind_first(rest);
     }
     Ok(())
@@ -182,12 +187,12 @@ fn add_bare(entries: &mut Vec<Journaled>, name: StepName, looks: bool) -> Result
 }
 
 /// The first entry tells which slab enters the book, and which region comes.
-fn sign(entries: &mut [Journaled], entered: Option<Class>, region: Option<RegionRec>)
-    ensures { entries.new ≡ with_signs entered region entries.old }
+fn sign(entries: &mut [Journaled], moves: &Moves)
+    ensures { entries.new ≡ with_signs moves.now.entered moves.now.region entries.old }
 {
     if let Some(first) = entries.first_mut() {
-        first.entered = entered;
-        first.region = region;
+        first.entered = moves.entered();
+        first.region = moves.region();
     }
 }
 
@@ -206,7 +211,7 @@ fn write(
     add_part_entries(entries, name, moves.parts())?;
     add_book_entries(entries, name, moves.book())?;
     add_bare(entries, name, looks)?;
-    sign(entries.as_mut_slice(), moves.entered(), moves.region());
+    sign(entries.as_mut_slice(), moves);
     Ok(())
 }
 
@@ -232,10 +237,15 @@ impl Journal {
 
     /// Takes the entries of the next step in place of the last one's: of what it moves, and of whether it looks at a
     /// bin in vain. A step that does neither has none. After an error, which is a want of memory, nothing has changed.
+    #[tactic(auto, unfolding(crate::specs::Journal::entries_of))]
     pub fn record(&mut self, name: StepName, looks: bool, moves: &Moves) -> Result<(), AllocError>
         ensures ok { OnOk result (self.new ≡ entries_of name looks moves.now) }
         ensures err { OnErr result (self.new ≡ self.old) }
     {
+        if !looks && moves.parts().is_empty() && moves.book().is_empty() {
+            self.entries.clear();
+            return Ok(());
+        }
         write(&mut self.fresh, name, looks, moves)?;
         std::mem::swap(&mut self.entries, &mut self.fresh);
         Ok(())
@@ -247,13 +257,9 @@ impl Journal {
         ensures { self.new ≡ with_answer name answer self.old }
     {
         if self.entries.is_empty() {
-            self.entries.push_reserved(Journaled {
-                answer: Some(answer),
-                ..bare_entry(name)
-            });
-        } else {
-            self.entries[0].answer = Some(answer);
+            self.entries.push_reserved(bare_entry(name));
         }
+        self.entries[0].answer = Some(answer);
     }
 
     /// No step was made: it has no entries.

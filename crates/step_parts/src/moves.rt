@@ -139,7 +139,7 @@ fn region_by(moved: Moved) -> Option<RegionRec>
 }
 
 impl Moves {
-    ghost use Rattle.step_parts.specs.Moves.{no_moves, moves_of};
+    ghost use Rattle.step_parts.specs.Moves.{no_moves, moving_of, moves_of};
 
     /// Room for a step's move. It takes no memory yet.
     pub fn make(alloc: Global) -> Moves
@@ -196,10 +196,37 @@ impl Moves {
     ) -> Result<(), AllocError>
         ensures { OnOk result (self.new ≡ moves_of key.now words.now regions.now local.now found) }
     {
-        let moved = moved_by(local, found);
-        let seat = local.seat;
+        match moved_by(local, found) {
+            Moved::Nothing => {
+                self.clear();
+                Ok(())
+            }
+            moved => self.follow(words, key, regions, local.seat, moved),
+        }
+    }
+
+    /// Nothing moves.
+    fn clear(&mut self)
+        ensures { self.new ≡ no_moves }
+    {
         self.parts.clear();
         self.book.clear();
+        self.entered = None;
+        self.region = None;
+    }
+
+    /// Finds what moves where this does.
+    fn follow(
+        &mut self,
+        words: &[u64],
+        key: &Key,
+        regions: &[RegionRec],
+        seat: u8,
+        moved: Moved,
+    ) -> Result<(), AllocError>
+        ensures { OnOk result (self.new ≡ moving_of key.now words.now regions.now seat moved) }
+    {
+        self.clear();
         self.entered = entered_by(moved);
         self.region = region_by(moved);
         find_moved_spots(&mut self.spots, words, key, moved)?;

@@ -1,6 +1,7 @@
 -- The totals of a pool: each byte of a live region under one holder.
 use Rattle.std.specs.Prelude.{ℕ, zero, suc, ◌+◌, ◌-◌, cond, eqb, List, [], ◌∷◌}
 use Rattle.part_model.specs.declared.totals.Totals.{Totals}
+use Rattle.part_model.specs.Totals.{no_totals}
 use Rattle.pool_types.specs.declared.policy.RegionRec.{RegionRec}
 use Rattle.pool_types.specs.Sums.{capped}
 use Rattle.pool_words.specs.declared.words.Word.{Word}
@@ -17,24 +18,6 @@ use Rattle.word_totals.specs.Reading.{Still, load, amid_of}
 use Rattle.word_totals.specs.Objects.{granule_kind, head_of}
 use Rattle.word_totals.specs.Slabs.{with_begun, joined_bytes}
 use Rattle.word_totals.specs.Blocks.{block_bytes, bin_bytes, queue_bytes, cached_bytes}
-
-abbrev pub no_totals : Totals
-no_totals = record {
-  regions = 0;
-  bytes = 0;
-  waste = 0;
-  head = 0;
-  rest = 0;
-  private = 0;
-  public = 0;
-  object = 0;
-  large_head = 0;
-  slab_cache = 0;
-  cached = 0;
-  bin = 0;
-  queue = 0;
-  hand = 0;
-}
 
 -- the totals with the object that begins at a unit, where its mark names a grant
 unfoldable pub with_held : Kind → ℕ → Mark → Totals → Totals

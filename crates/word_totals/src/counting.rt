@@ -1,9 +1,10 @@
 //! The totals of a pool: each byte of a live region under one holder.
 
 ghost use Rattle.std.specs.Prelude.{◌≡◌};
+ghost use Rattle.part_model.specs.Totals.{no_totals};
 ghost use Rattle.word_totals.specs.Counting.{with_held, with_units, with_objects, with_granule, with_granules};
 ghost use Rattle.word_totals.specs.Counting.{bytes_of, with_bytes, with_region, with_regions, with_blocks, with_amid};
-ghost use Rattle.word_totals.specs.Counting.{with_seats, no_totals, with_hand, totals_of};
+ghost use Rattle.word_totals.specs.Counting.{with_seats, with_hand, totals_of};
 
 use crate::blocks::{bin_bytes, block_bytes, cached_bytes, queue_bytes};
 use crate::middle::Amid;

@@ -1,6 +1,8 @@
 //! How a pool is read while nobody steps.
 
 ghost use Rattle.std.specs.Prelude.{◌≡◌};
+ghost use Rattle.pool_words.specs.Actions.{value};
+ghost use Rattle.pool_words.specs.declared.words.Word.{Word as AnyWord};
 ghost use Rattle.word_totals.specs.Reading.{Still, load, record_of, amid_of};
 
 use crate::middle::Amid;
@@ -50,6 +52,18 @@ impl<'a> Reading<'a> {
     }
 }
 
+/// The value of a mark. Marks are the first words of the row, so no other kind is looked at.
+#[tactic(auto, using(crate::proofs::Marks::marks_first))]
+fn mark(words: &[u64], key: &Key, unit: u64) -> u64
+    ensures { result ≡ value key.now words.now (AnyWord.Mark unit) }
+{
+    if unit < 1024 * u64::from(key.span) && unit < words.len() as u64 {
+        words[unit as usize]
+    } else {
+        value(words, key, Word::Mark(unit))
+    }
+}
+
 impl<'a> AtRest for Reading<'a> {
     ghost still = { λ r. record { key = r.key.now; words = r.words.now; locals = r.locals.now } };
 
@@ -59,7 +73,10 @@ impl<'a> AtRest for Reading<'a> {
 
     #[tactic(auto, unfolding(crate::specs::Reading::load))]
     fn load(&mut self, word: Word) -> u64 {
-        value(self.words, self.key, word)
+        match word {
+            Word::Mark(unit) => mark(self.words, self.key, unit),
+            _ => value(self.words, self.key, word),
+        }
     }
 
     #[tactic(auto, unfolding(crate::specs::Reading::record_of))]
