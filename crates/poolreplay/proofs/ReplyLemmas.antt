@@ -1,8 +1,7 @@
 -- Which texts are due.
-use Rattle.std.proofs.Common.{◌≡◌, ℕ, ◌⊎◌, inl, inr, Bool, true, false, List, [], ◌++◌, Some, None, refl, sym, ◌∙◌, ap, subst}
+use Rattle.std.proofs.Common.{◌≡◌, ℕ, inl, inr, Bool, false, List, [], refl, sym, subst}
 use Rattle.std.specs.Prelude.{Vec, Result, Ok, Err, IfOk, OnErr}
 use Rattle.std.specs.Global.{Global}
-use Rattle.std.specs.declared.option.Option.{Option}
 use Rattle.report_text.specs.Reports.{ReportView, ended_text}
 use Rattle.trace_reader.specs.declared.acts.Forms.TheVariants as forms
 use Rattle.trace_reader.specs.declared.refusal.TraceError.{TraceError}
@@ -12,12 +11,9 @@ use Rattle.trace_reader.specs.Text.{ReadsTrace}
 use Rattle.trace_runs.specs.Runs.{Runs, Sums}
 use Rattle.trace_runs.specs.declared.runs.RunError.TheVariants as RunError
 use Rattle.trace_runs.specs.declared.ends.Summary.{Summary}
-use Rattle.replay_words.specs.Commands.{IsCommand}
-use Rattle.replay_words.specs.declared.command.Command.{Command}
-use Rattle.replay_words.specs.declared.command.Command.TheVariants as command
 use Rattle.poolreplay.specs.declared.outcome.Status.{Status}
-use Rattle.poolreplay.specs.declared.outcome.Status.TheVariants.{Done, BadWords, BadTrace, TooLong, ReadFault, StepsOut, WriteFault, NoMemory}
-use Rattle.poolreplay.specs.Replay.{IsDue, IsDueFor, IsReply, IsSumReply, Says, is_listed, refused_text, steps_out_text}
+use Rattle.poolreplay.specs.declared.outcome.Status.TheVariants.{Done, BadTrace, StepsOut, NoMemory}
+use Rattle.poolreplay.specs.Replay.{IsReply, IsSumReply, Says, is_listed, refused_text, steps_out_text}
 use Rattle.poolreplay.specs.Summaries.{summary_text}
 
 -- a text that was made is said, or memory ran out
@@ -81,18 +77,3 @@ pub run_unsummed : (bytes : List ℕ) (trace : Trace) (line : ℕ) (status : Sta
 run_unsummed bytes trace line status text spelled sums says =
     sum_by bytes (StepsOut line) (steps_out_text line) status text
     (record { trace = trace; spelled = spelled; sums = sums }, refl) says
-
--- what is due for a command is due for its words
-pub due_for : (words : List (List ℕ)) (old new : Option (List ℕ)) (status : Status) (text : List ℕ) (command : Command)
-    → IsCommand words command → IsDueFor command old new status text → IsDue words old new status text
-due_for words old new BadWords text (command.Replay moves) asked due = absurd due
-due_for words old new BadWords text (command.Gen seed threads calls) asked due = absurd due.1
-due_for words old new WriteFault text (command.Replay moves) asked due = absurd due
-due_for words old new WriteFault text (command.Gen seed threads calls) asked due = absurd due.1
-due_for words old new NoMemory text (command.Replay moves) asked due = due
-due_for words old new NoMemory text (command.Gen seed threads calls) asked due = due.1
-due_for words old new Done text command asked due = record { command = command; asked = asked; due = due }
-due_for words old new (BadTrace line kind) text command asked due = record { command = command; asked = asked; due = due }
-due_for words old new (StepsOut line) text command asked due = record { command = command; asked = asked; due = due }
-due_for words old new TooLong text command asked due = record { command = command; asked = asked; due = due }
-due_for words old new ReadFault text command asked due = record { command = command; asked = asked; due = due }

@@ -97,10 +97,6 @@ pub record IsUnderWay (threads done : ℕ) (pool : Option PoolArrays) (places : 
   pub thread : HasThread threads going.lists
   pub room : HasGranted done going.lists
 
--- before the first line
-pub begun_way : (threads : ℕ) (pool : Option PoolArrays) (places : Places) (report : ReportView) (lines : List TraceLine) → IsAt pool places no_line → IsUnderWay threads 0 pool places report report lines lines
-begun_way threads pool places report lines is = record { going = no_line; here = is; ends = refl; text = refl; thread = tt; room = tt }
-
 -- after one line more
 pub stepped : (threads done : ℕ) (pool next : Option PoolArrays) (places kept : Places) (report written start : ReportView) (lines : List TraceLine) (line : TraceLine) (left : List TraceLine) →
     ((going : Going) → IsAt pool places going → IsAt next kept (after_line threads going line.act)) → ((going : Going) → IsAt pool places going → written ≡ with_entry report (entry_at threads going line.line line.act)) →

@@ -4,3 +4,4 @@ pub mod Explained
 pub mod Settled
 pub mod Replay
 pub mod Running
+pub mod Laws

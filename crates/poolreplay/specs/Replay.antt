@@ -1,5 +1,5 @@
 -- What a replay answers and writes.
-use Rattle.std.specs.Prelude.{◌≡◌, ℕ, ◌+◌, ◌<◌, ◌≤◌, ◌⊎◌, Bool, true, false, not, ◌&&◌, List, [], ◌++◌, codes, length, Some}
+use Rattle.std.specs.Prelude.{◌≡◌, ℕ, ◌+◌, ◌<◌, ◌≤◌, ◌⊎◌, Bool, false, not, ◌&&◌, List, [], ◌++◌, codes, length, Some}
 use Rattle.std.specs.Prelude.{None, Ok, Err}
 use Rattle.std.specs.Fmt.{decimal}
 use Rattle.std.specs.declared.option.Option.{Option}
@@ -77,10 +77,6 @@ pub record IsUnsummed (bytes : List ℕ) (line : ℕ) : Type 0 where
   pub trace : Trace
   pub spelled : ReadsTrace forms.All bytes (Ok trace)
   pub sums : Sums trace (Err (RunError.StepsOut line))
-
--- the bytes of a plain trace settle the text
-abbrev pub ReplaysAreClear : Type 0
-ReplaysAreClear = (bytes one other : List ℕ) → IsReplayed bytes one → IsReplayed bytes other → one ≡ other
 
 -- the text of a refused line
 abbrev pub refused_text : ℕ → ℕ → List ℕ
@@ -177,39 +173,64 @@ abbrev pub output_text : Output → List ℕ
 output_text (output.Words text) = text.items
 output_text (output.Whole report) = ended_text report
 
--- the status that bytes want, whether they are to be reported or summed
-abbrev pub IsAnswered : List ℕ → Status → Type 0
-IsAnswered bytes Done = (trace : Trace) × ReadsTrace forms.All bytes (Ok trace)
-IsAnswered bytes (BadTrace line kind) = IsRefused bytes line kind
-IsAnswered bytes other = ⊥
+-- The status that bytes want that are to be reported: their run comes to a report, or a line of it made the most turns
+-- that a line makes, or the bytes spell no trace.
+abbrev pub IsAnswered : Bool → List ℕ → Status → Type 0
+IsAnswered moves bytes Done = (text : List ℕ) × IsReportOf moves bytes text
+IsAnswered moves bytes (StepsOut line) = IsOutOfTurns moves bytes line
+IsAnswered moves bytes (BadTrace line kind) = IsRefused bytes line kind
+IsAnswered moves bytes other = ⊥
+
+-- and the one that bytes want that are to be summed
+abbrev pub IsSummed : List ℕ → Status → Type 0
+IsSummed bytes Done = (text : List ℕ) × IsSummaryOf bytes text
+IsSummed bytes (StepsOut line) = IsUnsummed bytes line
+IsSummed bytes (BadTrace line kind) = IsRefused bytes line kind
+IsSummed bytes other = ⊥
 
 -- the status that the source's bytes want
-abbrev pub IsReadWanted : List ℕ → Status → Type 0
-IsReadWanted bytes TooLong = most_trace_bytes < length bytes
-IsReadWanted bytes Done = (length bytes ≤ most_trace_bytes) × IsAnswered bytes Done
-IsReadWanted bytes (BadTrace line kind) = (length bytes ≤ most_trace_bytes) × IsAnswered bytes (BadTrace line kind)
-IsReadWanted bytes other = ⊥
+abbrev pub IsReadWanted : Bool → List ℕ → Status → Type 0
+IsReadWanted moves bytes status =
+    ((most_trace_bytes < length bytes) × (status ≡ TooLong))
+    ⊎ ((length bytes ≤ most_trace_bytes) × IsAnswered moves bytes status)
 
 -- the status that a command and the source's bytes want
 abbrev pub IsWantedBy : Command → List ℕ → Status → Type 0
-IsWantedBy (command.Replay moves) bytes status = IsReadWanted bytes status
-IsWantedBy (command.Gen seed threads calls) bytes status = IsAnswered (generated seed threads calls) status
+IsWantedBy (command.Replay moves) bytes status = IsReadWanted moves bytes status
+IsWantedBy (command.Gen seed threads calls) bytes status = IsSummed (generated seed threads calls) status
 
 -- The status that the words and the source's bytes want.
 abbrev pub IsWanted : List (List ℕ) → List ℕ → Status → Type 0
-IsWanted words bytes BadWords = ReadsCommand words None
-IsWanted words bytes status = (command : Command) × IsCommand words command × IsWantedBy command bytes status
+IsWanted words bytes status =
+    (ReadsCommand words None × (status ≡ BadWords))
+    ⊎ ((command : Command) × IsCommand words command × IsWantedBy command bytes status)
 
--- where a report or a summary is wanted, a line may be out of turns
-abbrev pub IsOut : Status → Status → Type 0
-IsOut Done (StepsOut line) = Unit {0}
-IsOut wanted status = ⊥
-
--- The status comes that is wanted, or a line is out of turns, but for want of memory, and for a fault that is counted. The
--- counts are those of the source before and after, and those of the sink.
+-- The status comes that is wanted, but for want of memory, and for a fault that is counted. The counts are those of the
+-- source before and after, and those of the sink.
 abbrev pub ComesBut : Status → Status → ℕ → ℕ → ℕ → ℕ → Type 0
 ComesBut wanted status source source' sink sink' =
-    (status ≡ wanted) ⊎ IsOut wanted status ⊎ (status ≡ NoMemory) ⊎ ((status ≡ ReadFault) × Rose source source')
+    (status ≡ wanted) ⊎ (status ≡ NoMemory) ⊎ ((status ≡ ReadFault) × Rose source source')
+    ⊎ ((status ≡ WriteFault) × Rose sink sink')
+
+-- the bytes spell a trace
+abbrev pub SpellOne : List ℕ → Type 0
+SpellOne bytes = (trace : Trace) × ReadsTrace forms.All bytes (Ok trace)
+
+-- a command has a trace to run: one that is read, no longer than it may be, or one that is generated
+abbrev pub HasTrace : Command → List ℕ → Type 0
+HasTrace (command.Replay moves) bytes = (length bytes ≤ most_trace_bytes) × SpellOne bytes
+HasTrace (command.Gen seed threads calls) bytes = SpellOne (generated seed threads calls)
+
+-- a trace was run: to its end, or to a line that is out of turns
+abbrev pub IsRunEnd : Status → Type 0
+IsRunEnd Done = Unit {0}
+IsRunEnd (StepsOut line) = Unit {0}
+IsRunEnd other = ⊥
+
+-- it was, but for want of memory, and for a fault that is counted
+abbrev pub RunsBut : Status → ℕ → ℕ → ℕ → ℕ → Type 0
+RunsBut status source source' sink sink' =
+    IsRunEnd status ⊎ (status ≡ NoMemory) ⊎ ((status ≡ ReadFault) × Rose source source')
     ⊎ ((status ≡ WriteFault) × Rose sink sink')
 
 -- the text that is due with the status was written, behind what the sink had
@@ -235,3 +256,9 @@ abbrev pub IsComplete : List (List ℕ) → Option (List ℕ) → Status → ℕ
 IsComplete words left status source source' sink sink' =
     (bytes : List ℕ) (wanted : Status) → left ≡ Some bytes → IsWanted words bytes wanted →
     ComesBut wanted status source source' sink sink'
+
+-- and where the words ask for a command that has a trace, it is run
+abbrev pub IsRunWhereSpelled : List (List ℕ) → Option (List ℕ) → Status → ℕ → ℕ → ℕ → ℕ → Type 0
+IsRunWhereSpelled words left status source source' sink sink' =
+    (bytes : List ℕ) (command : Command) → left ≡ Some bytes → IsCommand words command → HasTrace command bytes →
+    RunsBut status source source' sink sink'

@@ -1,5 +1,5 @@
 //! A source that keeps what was read of another, so that a refused line can be shown. This project's own.
-ghost use Rattle.std.specs.Prelude.{◌≡◌};
+ghost use Rattle.std.specs.Prelude.{◌≡◌, []};
 
 use pool_types::{Failed, Source};
 use std::alloc::Global;
@@ -13,7 +13,10 @@ pub struct Kept<S: Source> {
 
 impl<S: Source> Kept<S> {
     /// Nothing was read yet.
-    pub fn of(alloc: Global, inner: S) -> Self {
+    pub fn of(alloc: Global, inner: S) -> Self
+        ensures inner { result.inner ≡ inner }
+        ensures bytes { result.bytes.items ≡ [] }
+    {
         Kept {
             inner,
             bytes: Vec::new(alloc),
@@ -21,7 +24,9 @@ impl<S: Source> Kept<S> {
     }
 
     /// What was read.
-    pub fn bytes(&self) -> &[u8] {
+    pub fn bytes(&self) -> &[u8]
+        ensures { result.now ≡ self.now.bytes.items }
+    {
         self.bytes.as_slice()
     }
 

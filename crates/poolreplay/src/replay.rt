@@ -7,7 +7,7 @@ ghost use Rattle.pool_types.specs.Transfers.{IsWrittenPart};
 ghost use Rattle.replay_words.specs.Commands.{ReadsCommand};
 ghost use Rattle.trace_gen.specs.Generated.{generated};
 ghost use Rattle.poolreplay.specs.Replay.{IsComplete, IsDue, IsFrontWritten, IsReplayReply, IsSumReply, IsWritten};
-ghost use Rattle.poolreplay.specs.Replay.{output_text};
+ghost use Rattle.poolreplay.specs.Replay.{IsRunWhereSpelled, output_text};
 ghost use Rattle.poolreplay.specs.declared.outcome.Status.{Status};
 
 use crate::outcome::{Output, Reply, Status, silent, spoken};
@@ -87,8 +87,9 @@ fn write_output<K: Sink>(sink: &mut K, output: &Output) -> Result<(), Failed>
 /// The words are those after the program's name. The trace is read and checked whole before it is run, and the report is
 /// made whole before it is written. `ReadFault` and `WriteFault` come only where the count of faults of the source or of
 /// the sink rose, and each other status only where both counts stayed, so no fault is passed over. After `WriteFault` the
-/// front of the text that was due with some status is written. The status that the words and the bytes want comes, or a
-/// line is out of turns, but for want of memory and for such faults.
+/// front of the text that was due with some status is written. The status that the words and the bytes want comes, but
+/// for want of memory and for such faults: `StepsOut` exactly where a line of the run makes the most turns that a line
+/// makes. A trace that the bytes spell is run, whatever its run comes to.
 pub fn replay<S: Source, K: Sink>(
     alloc: Global,
     words: &[String],
@@ -102,6 +103,8 @@ pub fn replay<S: Source, K: Sink>(
         IsFrontWritten (map string_bytes words.now) (S.left source.old) (S.left source.new) (K.taken sink.old)
         (K.taken sink.new) }
     ensures complete { IsComplete (map string_bytes words.now) (S.left source.old) result (S.faults source.old)
+        (S.faults source.new) (K.faults sink.old) (K.faults sink.new) }
+    ensures run { IsRunWhereSpelled (map string_bytes words.now) (S.left source.old) result (S.faults source.old)
         (S.faults source.new) (K.faults sink.old) (K.faults sink.new) }
     ensures refused { ReadsCommand (map string_bytes words.now) None →
         (result ≡ Status.BadWords) ⊎ (result ≡ Status.NoMemory) ⊎ (result ≡ Status.WriteFault) }

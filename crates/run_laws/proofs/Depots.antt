@@ -1,5 +1,5 @@
 -- What a step makes of the words and of the office is one, and so is what it finds.
-use Rattle.std.proofs.Common.{◌≡◌, ℕ, Bool, true, false, ap, ◌∙◌, sym, refl, List, subst, Some, None, Ok, Err}
+use Rattle.std.proofs.Common.{◌≡◌, ℕ, Bool, true, false, ap, ◌∙◌, sym, refl, subst, Ok, Err}
 use Rattle.std.specs.Prelude.{Option, Result}
 use Rattle.pool_types.specs.declared.policy.RegionRec.{RegionRec}
 use Rattle.pool_types.specs.Script.{Script, Gets, Puts}

@@ -5,3 +5,5 @@ mod Machines
 mod Lines
 mod Makings
 mod Traces
+mod Texts
+pub mod CallerLemmas

@@ -1,12 +1,10 @@
 -- What a line on a pool comes to is one.
-use Rattle.std.proofs.Common.{◌≡◌, ℕ, zero, suc, Bool, true, false, ap, ◌∙◌, sym, refl, List, length, subst, Some, None, Ok, Err}
+use Rattle.std.proofs.Common.{◌≡◌, ℕ, zero, suc, Bool, true, false, ap, ◌∙◌, sym, refl, length, subst, Some, None, Ok, Err}
 use Rattle.std.specs.Prelude.{Option, Result}
 use Rattle.pool_types.specs.declared.endings.Destroyed.{Destroyed}
-use Rattle.pool_types.specs.declared.values.Answer.{Answer}
 use Rattle.pool_types.specs.declared.values.InCall.{InCall}
 use Rattle.pool_types.specs.declared.values.Turn.{Turn}
 use Rattle.pool_types.specs.Script.{Script}
-use Rattle.report_text.specs.declared.entry.ReportEntry.{ReportEntry}
 use Rattle.report_text.specs.declared.entry.ReportEntry.TheVariants as entry
 use Rattle.run_report.specs.declared.book.Book.{Book}
 use Rattle.run_report.specs.Books.{noted}
@@ -16,14 +14,14 @@ use Rattle.step_core.specs.Counts.{still_of}
 use Rattle.step_core.specs.Machines.{Machine, held_back}
 use Rattle.step_core.specs.Resets.{reset_begun}
 use Rattle.step_core.specs.Turns.{begun_in}
-use Rattle.trace_calls.specs.Names.{Names, names_after, request_of}
+use Rattle.trace_calls.specs.Names.{Names, request_of}
 use Rattle.trace_reader.specs.declared.acts.TraceCall.{TraceCall}
 use Rattle.word_totals.specs.Leaking.{leaks_of}
-use Rattle.line_runs.specs.Ending.{Ends, DestroysBy, Destroys}
-use Rattle.line_runs.specs.Lines.{NamesAfter, Notes, Spends, Stops, Finishes, CallsBy, Calls, begun_at}
+use Rattle.line_runs.specs.Ending.{DestroysBy, Destroys}
+use Rattle.line_runs.specs.Lines.{Spends, Stops, Finishes, CallsBy, begun_at}
 use Rattle.line_runs.specs.PoolLines.{PoolRuns}
 use Rattle.line_runs.specs.Pools.{Pool, call_of, with_machine, with_call}
-use Rattle.line_runs.specs.Resetting.{ResetOnward, ResetsOn, ResetsWhole, ResetsBy, Resets, most_reset_turns}
+use Rattle.line_runs.specs.Resetting.{ResetOnward, ResetsOn, ResetsBy, Resets, most_reset_turns}
 use Rattle.line_runs.specs.Turning.{stop_of, turns_of, Onward, TurnsOn}
 use Rattle.line_runs.specs.declared.lines.Came.{Came}
 use Rattle.line_runs.specs.declared.lines.LineAt.{LineAt}
@@ -110,11 +108,6 @@ resets_on_once (suc turns) old book new new' last last' sound h h' =
 -- what is written came to the same
 abbrev pub WritesAreOne : Came → Came → Names → Names → Book → Book → Type 0
 WritesAreOne came came' after after' last last' = (came ≡ came') × (after ≡ after') × (last ≡ last')
-
-pub notes_once : (what : ReportEntry) (names : Names) (book : Book) (came came' : Came) (after after' : Names)
-    (last last' : Book) → Notes what names book came after last → Notes what names book came' after' last' →
-    WritesAreOne came came' after after' last last'
-notes_once what names book came came' after after' last last' h h' = (h.0 ∙ sym h'.0, h.1 ∙ sym h'.1, h.2 ∙ sym h'.2)
 
 spends_once : (until : Until) (line : ℕ) (names : Names) (book : Book) (came came' : Came) (after after' : Names)
     (last last' : Book) → Spends until line names book came after last → Spends until line names book came' after' last' →

@@ -1,11 +1,10 @@
 -- What a turn makes of a machine is one.
-use Rattle.std.proofs.Common.{◌≡◌, ℕ, ◌<◌, Bool, true, false, ap, ◌∙◌, sym, refl, List, [], ◌∷◌, length, subst, Some, None, Ok, Err, arith}
-use Rattle.std.specs.Prelude.{Option, Result, slice_get}
+use Rattle.std.proofs.Common.{◌≡◌, ℕ, Bool, true, false, ap, ◌∙◌, sym, refl, List, [], ◌∷◌, subst, Some, None, Ok, arith}
+use Rattle.std.specs.Prelude.{Option, slice_get}
 use Rattle.pool_types.specs.declared.endings.Destroyed.{Destroyed}
 use Rattle.pool_types.specs.declared.policy.Limits.{Limits}
 use Rattle.pool_types.specs.declared.policy.Policy.{Policy}
 use Rattle.pool_types.specs.declared.policy.RegionRec.{RegionRec}
-use Rattle.pool_types.specs.declared.values.InCall.{InCall}
 use Rattle.pool_types.specs.declared.values.Request.{Request}
 use Rattle.pool_types.specs.declared.values.Turn.{Turn}
 use Rattle.pool_types.specs.Script.{Script, Gets, Puts}
@@ -21,9 +20,8 @@ use Rattle.step_core.specs.Endings.{PassesAll, EndsBy, DestroysBy, Destroys, no_
 use Rattle.step_core.specs.Machines.{Machine, held_back, lowest_in_call}
 use Rattle.step_core.specs.Resets.{PartTurns, ResetTurnsBy, ResetTurns, begun_part, part_turned, part_after, reset_begun_by, reset_begun, seat_of}
 use Rattle.step_core.specs.Steps.{gives_at, name_at}
-use Rattle.step_core.specs.Turns.{begun_by, begun_in, stepped, rested, answered, StepsOf, StepsBy, StepsAt, Answers, TurnsBy, Turns}
+use Rattle.step_core.specs.Turns.{begun_by, begun_in, stepped, answered, StepsOf, StepsBy, StepsAt, Answers, TurnsBy, Turns}
 use Rattle.step_core.specs.declared.resets.Resetting.{Resetting}
-use Rattle.step_core.specs.declared.resets.Resetting.TheVariants.{Heap, Pool}
 use Rattle.line_runs.specs.Turning.{out_of, faults_of}
 use Rattle.run_laws.proofs.Scripted.{puts_once}
 use Rattle.run_laws.proofs.Depots.{IsSoundStock, steps_once}

@@ -1,7 +1,5 @@
 -- A pool that a line makes is one, and its office is sound.
-use Rattle.std.proofs.Common.{◌≡◌, ℕ, ◌<◌, ◌≤◌, Bool, true, false, arith, ap, ◌∙◌, sym, refl, List, [], ◌∷◌, ◌++◌, length, subst, Some, None, Ok, Err}
-use Rattle.std.specs.Prelude.{Option, Result}
-use Rattle.std.specs.List.{AllPairs}
+use Rattle.std.proofs.Common.{◌≡◌, ℕ, Bool, true, false, arith, ap, ◌∙◌, sym, refl, [], length, Some, Ok, Err}
 use Rattle.std.proofs.lemmas.List.Elements.{All-nil}
 use Rattle.pool_types.specs.declared.policy.CreateError.{CreateError}
 use Rattle.pool_types.specs.declared.policy.CreateError.TheVariants.{InvalidPolicy, UnsupportedPolicy, BadLimits, NoMemory}

@@ -1,7 +1,6 @@
 -- What a sound office with a scripted callback comes to is one, and is sound.
-use Rattle.std.proofs.Common.{◌≡◌, ℕ, ◌+◌, ◌-◌, ◌*◌, ◌/◌, ◌%◌, ◌<◌, ◌≤◌, Bool, true, false, arith, ap, ◌∙◌, sym, refl, List, [], ◌∷◌, ◌++◌, ◌⊎◌, inl, inr, length, get_or, subst, Some, None, Ok, Err}
+use Rattle.std.proofs.Common.{◌≡◌, ℕ, ◌+◌, ◌-◌, ◌*◌, ◌/◌, ◌%◌, ◌<◌, ◌≤◌, Bool, true, false, arith, ap, ◌∙◌, sym, refl, List, [], ◌∷◌, ◌++◌, ◌⊎◌, inl, inr, get_or, subst, Some, None, Ok, Err}
 use Rattle.std.specs.Prelude.{Option, Result, remove, max, if◌then◌else◌, ◌==◌}
-use Rattle.std.specs.List.{AllPairs}
 use Rattle.std.proofs.lemmas.Bool.{cases_lt}
 use Rattle.std.proofs.lemmas.Bool.Decides.{nat_tests}
 use Rattle.std.proofs.lemmas.List.{get_or_default}

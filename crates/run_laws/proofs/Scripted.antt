@@ -1,5 +1,5 @@
 -- A callback with scripts answers once.
-use Rattle.std.proofs.Common.{◌≡◌, ℕ, Bool, true, false, refl, sym, ◌∙◌, ap}
+use Rattle.std.proofs.Common.{◌≡◌, ℕ, Bool, sym, ◌∙◌, ap}
 use Rattle.std.specs.Prelude.{if◌then◌else◌, Option}
 use Rattle.pool_types.specs.Causes.{counted_up}
 use Rattle.pool_types.specs.Script.{Script, Gets, Puts}

@@ -1,5 +1,5 @@
 -- What a trace comes to is one.
-use Rattle.std.proofs.Common.{◌≡◌, ◌≢◌, ℕ, zero, suc, Bool, false, ap, ◌∙◌, sym, refl, List, [], ◌∷◌, ◌++◌, subst, Some, None, Ok, Err}
+use Rattle.std.proofs.Common.{◌≡◌, ℕ, zero, suc, Bool, false, ap, ◌∙◌, sym, refl, List, [], ◌∷◌, ◌++◌, subst, Some, None, Ok, Err}
 use Rattle.std.specs.Prelude.{Option, Result, slice_get, slice_set, length}
 use Rattle.std.proofs.lemmas.Option.{same_Some}
 use Rattle.pool_types.specs.declared.values.Place.{Place}
@@ -17,9 +17,9 @@ use Rattle.line_runs.specs.declared.pool_lines.PoolLine.{PoolLine}
 use Rattle.trace_runs.specs.Ending.{reported, reported_by, summary_of, with_slots, counts_summary}
 use Rattle.trace_runs.specs.Lines.{deed_of, call_counted, OnPool, DeedRuns}
 use Rattle.trace_runs.specs.Making.{Makes, options_of, slot_of}
-use Rattle.trace_runs.specs.Runs.{Onward, RunsOn, RunsAll, Runs, Sums, empty_report}
+use Rattle.trace_runs.specs.Runs.{Onward, RunsOn, RunsAll, empty_report}
 use Rattle.trace_runs.specs.Slots.{SlotRuns, SlotsRunBy, SlotsRun, SlotDestroys, SlotsDestroyBy, SlotsDestroy}
-use Rattle.trace_runs.specs.States.{State, IsFirst, names_in}
+use Rattle.trace_runs.specs.States.{State, names_in}
 use Rattle.trace_runs.specs.declared.ends.Summary.{Summary}
 use Rattle.trace_runs.specs.declared.lines.Deed.{Deed}
 use Rattle.trace_runs.specs.declared.runs.RunError.{RunError}

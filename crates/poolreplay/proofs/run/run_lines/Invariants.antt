@@ -1,4 +1,4 @@
-use Rattle.std.proofs.Common.{◌≡◌, drop}
+use Rattle.std.proofs.Common.{drop}
 use Rattle.poolreplay.proofs.Steps.{IsUnderWay}
 use Rattle.poolreplay.proofs.run.run_lines.Given as goal
 

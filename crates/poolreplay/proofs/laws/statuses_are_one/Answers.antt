@@ -1,0 +1,5 @@
+use Rattle.poolreplay.proofs.WantedLemmas.{statuses_are_one}
+use Rattle.poolreplay.proofs.laws.statuses_are_one.Goals as goal
+
+pub returns : goal.returns
+returns c = statuses_are_one

@@ -1,0 +1,5 @@
+use Rattle.run_laws.proofs.Texts.{texts_sum_to_one}
+use Rattle.run_laws.proofs.laws.texts_sum_to_one.Goals as goal
+
+pub returns : goal.returns
+returns c = texts_sum_to_one
