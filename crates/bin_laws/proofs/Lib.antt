@@ -1,0 +1,11 @@
+pub mod Members
+pub mod Words
+pub mod Guarded
+pub mod Tallies
+pub mod Lists
+pub mod Keeps
+pub mod Stays
+pub mod Scans
+pub mod Takes
+pub mod Counts
+pub mod Examples

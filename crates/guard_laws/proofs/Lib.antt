@@ -1,0 +1,16 @@
+pub mod Edges
+pub mod Blocks
+pub mod Wins
+pub mod Puts
+pub mod Regroup
+pub mod Cuts
+pub mod Regions
+pub mod Drains
+pub mod Words
+pub mod Keeps
+pub mod Hands
+pub mod Tells
+pub mod Neighbours
+pub mod Examples
+pub mod Covers
+pub mod CallerLemmas

@@ -1,0 +1,16 @@
+pub mod Words
+pub mod Guarded
+pub mod Pushing
+pub mod Draining
+pub mod Keeps
+pub mod Puts
+pub mod Alone
+pub mod PutSteps
+pub mod Looks
+pub mod LoneWins
+pub mod NeverQueue
+pub mod KeepCalm
+pub mod Rests
+pub mod Apart
+pub mod Whole
+pub mod Examples

@@ -1,0 +1,10 @@
+pub mod Queue
+pub mod Steps
+pub mod Puts
+pub mod Alone
+pub mod Rests
+pub mod Apart
+pub mod Whole
+pub mod Named
+pub mod Laws
+pub mod Wrong
