@@ -12,7 +12,7 @@ use Rattle.word_codes.specs.Places.{slot_of}
 use Rattle.word_codes.specs.RegionWords.{region_of, has_granule}
 use Rattle.region_steps.specs.declared.office.OfficeAt.{OfficeAt}
 use Rattle.region_steps.specs.Office.{region_word_of, office_course}
-use Rattle.word_laws.specs.Memory.{Mem, stored, after, fresh}
+use Rattle.word_laws.specs.Memory.{Mem, stored, after}
 use Rattle.word_laws.proofs.CallerLemmas.{equal_or}
 use Rattle.office_laws.specs.Regions.{Task, Shadow, core_in, Holds, WordFits, AreApart, RegionFits, gives}
 use Rattle.office_laws.specs.Regions.{TaskFits, OfficeGood}
@@ -22,7 +22,7 @@ use Rattle.office_laws.specs.Named.{third, fourth, no_region_word, named_regions
 use Rattle.office_laws.specs.Laws.{IsAtOffice, SameRegions, OnlyTheOfficeChangesRegions, NumbersNeverReturn, FindsGiven}
 use Rattle.office_laws.specs.Laws.{GivenRegionsAreFound, FreshOfficesHaveNoRegions, NamedOfficeStands}
 use Rattle.office_laws.specs.Wrong.{TouchAtMost, EarlyRemovalsAreWrong, WalllessRegionsAreWrong}
-use Rattle.office_laws.proofs.Maps.{put-other, each}
+use Rattle.word_laws.proofs.CallerLemmas.{put-other, each}
 use Rattle.office_laws.proofs.Words.{stored-apart, same_after, free_reads}
 use Rattle.office_laws.proofs.Seats.{one_holder, fits_at}
 
@@ -49,7 +49,7 @@ plain_holds (OfficeAt.Remove given) job plain = tt
 plain_holds (OfficeAt.Back end) job plain = tt
 plain_holds (OfficeAt.Unlock end) job plain = tt
 
-locked_same : (k : Key) (m : Mem) (t : ℕ) (job : OfficeJob)
+pub locked_same : (k : Key) (m : Mem) (t : ℕ) (job : OfficeJob)
     → SameRegions m (after k m (office_course (call_of t job) OfficeAt.Lock))
 locked_same k m t job = by (eqb (m office_locks 0) 0)
   where
@@ -67,7 +67,7 @@ only_the_office_changes_regions k g m tasks h m' tasks' good (OfficeStep.locks t
     inl (locked_same k m t job)
 only_the_office_changes_regions k g m tasks h m' tasks' good (OfficeStep.plain t job at is plain) =
     inr (t, at_office g m tasks t (Task.At job at) good is (plain_holds at job plain))
-only_the_office_changes_regions k g m tasks h m' tasks' good (OfficeStep.comes t granules given one is fresh) =
+only_the_office_changes_regions k g m tasks h m' tasks' good (OfficeStep.comes t granules given one is may) =
     inl (record { words = refl; bases' = refl })
 only_the_office_changes_regions k g m tasks h m' tasks' good (OfficeStep.refused t granules given error is) =
     inl (record { words = refl; bases' = refl })
@@ -105,10 +105,10 @@ later_step : (k : Key) (g : Shadow) (m : Mem) (tasks : ℕ → Task) (h : Shadow
 later_step k g m tasks h m' tasks' (OfficeStep.begins t job is) = later_same g
 later_step k g m tasks h m' tasks' (OfficeStep.locks t job few is) = later_same g
 later_step k g m tasks h m' tasks' (OfficeStep.plain t job at is plain) = later_same g
-later_step k g m tasks h m' tasks' (OfficeStep.comes t granules given one is fresh) = record {
-  counter = let n = fresh.number in omega arith;
+later_step k g m tasks h m' tasks' (OfficeStep.comes t granules given one is may) = record {
+  counter = let n = may.number in omega arith;
   old = λ s a z low. each (λ s q. q ≡ Some a → g.out s ≡ Some a) g.out (slot_of one.number) (Some one) (λ s _ w. w)
-      (λ w. absurd (let same : one ≡ a = cc in let n = fresh.number in
+      (λ w. absurd (let same : one ≡ a = cc in let n = may.number in
       let e = ap (λ (x : RegionRec). x.number) same in omega arith)) s z;
 }
 later_step k g m tasks h m' tasks' (OfficeStep.refused t granules given error is) = later_same g

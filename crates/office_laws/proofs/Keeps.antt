@@ -32,7 +32,7 @@ use Rattle.office_laws.specs.Steps.{call_of, task_after, IsFresh, shadow_came, s
 use Rattle.office_laws.specs.Steps.{OfficeStep}
 use Rattle.office_laws.specs.Steps.OfficeRun.{starts, steps}
 use Rattle.office_laws.specs.Laws.{StepsKeepOffice, RunsKeepOffice}
-use Rattle.office_laws.proofs.Maps.{put-same, put-other, each, both}
+use Rattle.word_laws.proofs.CallerLemmas.{put-same, put-other, each, both}
 use Rattle.office_laws.proofs.Words.{SameWords, to_stored, to_void, same_after, same_keeps, free_reads}
 use Rattle.office_laws.proofs.Seats.{free_fits, one_holder, lock_stays, tasks_stay, entered_stay, goes_on, fits_at}
 

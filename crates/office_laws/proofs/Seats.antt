@@ -4,7 +4,7 @@ use Rattle.pool_types.specs.declared.policy.RegionRec.{RegionRec}
 use Rattle.pool_words.specs.declared.actions.OfficeJob.{OfficeJob}
 use Rattle.region_steps.specs.declared.office.OfficeAt.{OfficeAt}
 use Rattle.word_laws.specs.Memory.{put}
-use Rattle.office_laws.proofs.Maps.{put-other, each}
+use Rattle.word_laws.proofs.CallerLemmas.{put-other, each}
 use Rattle.office_laws.specs.Regions.{Task, Shadow, Core, HoldsAt, Holds, LockFits, coming, IsEntered, RecordsFit}
 use Rattle.office_laws.specs.Regions.{OfficeFits, TaskFits, OfficeGood}
 

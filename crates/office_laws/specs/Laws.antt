@@ -1,5 +1,6 @@
 -- The laws of the office.
-use Rattle.std.specs.Prelude.{slice_index_or, List, [], ◌∷◌, ◌++◌, length, ◌≡◌, ℕ, ◌+◌, ◌<◌, ◌≤◌, ◌⊎◌, true, Some}
+use Rattle.std.specs.Prelude.{slice_index_or, List, [], ◌∷◌, ◌++◌, length, ◌≡◌, ℕ, ◌+◌, ◌<◌, ◌≤◌, ◌⊎◌, true, false}
+use Rattle.std.specs.Prelude.{Some}
 use Rattle.std.specs.List.{AllPairs}
 use Rattle.pool_types.specs.Limits.{region_numbers, most_span}
 use Rattle.pool_types.specs.declared.policy.RegionRec.{RegionRec}
@@ -9,11 +10,11 @@ use Rattle.pool_words.specs.declared.words.Key.{Key}
 use Rattle.pool_words.specs.declared.actions.OfficeJob.{OfficeJob}
 use Rattle.pool_words.specs.Words.{office_locks, regions, bases}
 use Rattle.word_codes.specs.Locks.{holder_of}
-use Rattle.word_codes.specs.RegionWords.{has_granule}
+use Rattle.word_codes.specs.RegionWords.{region_of, has_granule}
 use Rattle.region_steps.specs.declared.office.OfficeAt.{OfficeAt}
 use Rattle.region_steps.specs.Office.{region_word_of}
 use Rattle.word_laws.specs.Memory.{Mem, fresh}
-use Rattle.office_laws.specs.Regions.{Task, Shadow, core_in, Holds, OutFits, OfficeGood}
+use Rattle.office_laws.specs.Regions.{Task, Shadow, core_in, Holds, WordFits, OutFits, OfficeGood}
 use Rattle.office_laws.specs.Steps.{IsFresh, OfficeStep, OfficeRun}
 use Rattle.office_laws.specs.Named.{no_regions, named_regions, named_office}
 
@@ -70,6 +71,42 @@ abbrev pub GivenRegionsAreFound : Type 0
 GivenRegionsAreFound =
     (g : Shadow) (m : Mem) (tasks : ℕ → Task) (seat first s : ℕ) → OfficeGood g (core_in m tasks)
     → tasks seat ≡ Task.At (OfficeJob.Give first) (OfficeAt.Remove (Some s)) → FindsGiven g s first
+
+-- where nobody is at the office, it has a record of just the regions that the words say
+pub record IsAtHome (g : Shadow) (m : Mem) (s : ℕ) : Type 0 where
+  pub same : g.out s ≡ g.live s
+  pub words : WordFits (g.out s) (region_of (m regions s)) (m bases s)
+
+abbrev pub RecordsAtHomeAreThoseOfTheWords : Type 0
+RecordsAtHomeAreThoseOfTheWords =
+    (g : Shadow) (m : Mem) (tasks : ℕ → Task) (s : ℕ) → OfficeGood g (core_in m tasks) → m office_locks 0 ≡ 0
+    → IsAtHome g m s
+
+-- a granule is outside where no region of the words has it
+abbrev pub HasGranule : RegionRec → ℕ → Type 0
+HasGranule one e = (one.first ≤ e) × (e < one.first + one.granules)
+
+abbrev pub IsOutside : Shadow → ℕ → Type 0
+IsOutside g e = (s : ℕ) (one : RegionRec) → g.live s ≡ Some one → HasGranule one e → ⊥
+
+abbrev pub NoWordHas : Mem → ℕ → Type 0
+NoWordHas m e = (s : ℕ) → has_granule (region_of (m regions s)) e ≡ false
+
+-- and that is so exactly where no slot's word says that its region has it
+pub record IsSeenOutside (g : Shadow) (m : Mem) (e : ℕ) : Type 0 where
+  pub outside : NoWordHas m e → IsOutside g e
+  pub seen : IsOutside g e → NoWordHas m e
+
+abbrev pub GranulesAreOutsideWhereNoWordHasThem : Type 0
+GranulesAreOutsideWhereNoWordHasThem =
+    (g : Shadow) (m : Mem) (tasks : ℕ → Task) (e : ℕ) → OfficeGood g (core_in m tasks) → IsSeenOutside g m e
+
+-- what a seat at the office has loaded of regions stays: a step that is not its own leaves them
+abbrev pub LoadedRegionsStay : Type 0
+LoadedRegionsStay =
+    (k : Key) (g : Shadow) (m : Mem) (tasks : ℕ → Task) (h : Shadow) (m' : Mem) (tasks' : ℕ → Task) (seat : ℕ)
+    → OfficeGood g (core_in m tasks) → OfficeStep k g m tasks h m' tasks' → Holds (tasks seat)
+    → tasks' seat ≡ tasks seat → SameRegions m m'
 
 -- in a new pool no region is
 abbrev pub FreshOfficesHaveNoRegions : Type 0

@@ -3,6 +3,8 @@
 ghost use Rattle.office_laws.specs.Laws.{StepsKeepOffice, RunsKeepOffice, OnlyTheOfficeChangesRegions};
 ghost use Rattle.office_laws.specs.Laws.{GranulesHaveOneRegion, NumbersNeverReturn, GivenRegionsAreFound};
 ghost use Rattle.office_laws.specs.Laws.{ObtainedRegionsAreFresh, FreshOfficesHaveNoRegions, NamedOfficeStands};
+ghost use Rattle.office_laws.specs.Laws.{RecordsAtHomeAreThoseOfTheWords, GranulesAreOutsideWhereNoWordHasThem};
+ghost use Rattle.office_laws.specs.Laws.{LoadedRegionsStay};
 ghost use Rattle.office_laws.specs.Wrong.{EarlyRemovalsAreWrong, WalllessRegionsAreWrong};
 
 /// Each step of each seat keeps what holds of the office and of regions.
@@ -38,6 +40,21 @@ pub fn given_regions_are_found()
 /// A region that the office's contract says it obtained may come: it has a number, a slot and indices of its own.
 pub fn obtained_regions_are_fresh()
     ensures { ObtainedRegionsAreFresh }
+{}
+
+/// Where nobody is at the office, it has a record of just the regions that the words say.
+pub fn records_at_home_are_those_of_the_words()
+    ensures { RecordsAtHomeAreThoseOfTheWords }
+{}
+
+/// A granule is in no region exactly where no slot's word says that its region has it.
+pub fn granules_are_outside_where_no_word_has_them()
+    ensures { GranulesAreOutsideWhereNoWordHasThem }
+{}
+
+/// What a seat at the office has loaded of regions stays while others step.
+pub fn loaded_regions_stay()
+    ensures { LoadedRegionsStay }
 {}
 
 /// In a new pool no region is.

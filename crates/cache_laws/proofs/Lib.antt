@@ -1,0 +1,16 @@
+pub mod Words
+pub mod Seats
+pub mod Locks
+pub mod Gets
+pub mod GetSteps
+pub mod Lists
+pub mod Puts
+pub mod PutSteps
+pub mod Sweeps
+pub mod SweepSteps
+pub mod Keeps
+pub mod Uses
+pub mod Clock
+pub mod Examples
+pub mod Busy
+pub mod CallerLemmas

@@ -1,0 +1,11 @@
+pub mod Bins
+pub mod Gets
+pub mod Puts
+pub mod Sweeps
+pub mod Good
+pub mod Steps
+pub mod Uses
+pub mod Clock
+pub mod Named
+pub mod Laws
+pub mod Wrong
