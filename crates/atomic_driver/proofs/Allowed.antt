@@ -1,15 +1,14 @@
 -- Each step of a course keeps the rule of the table.
-use Rattle.std.proofs.Common.{◌≡◌, ◌≢◌, ◌⊎◌, ℕ, suc, ◌+◌, ◌%◌, ◌^◌, ◌<◌, ◌≤◌, Bool, true, false, cond, eqb, List, []}
+use Rattle.std.proofs.Common.{◌≡◌, ◌≢◌, ◌⊎◌, ℕ, ◌+◌, ◌%◌, ◌^◌, ◌≤◌, Bool, true, false, cond, eqb, List, []}
 use Rattle.std.proofs.Common.{◌∷◌, length, refl, sym, ap, ◌∙◌, subst, inl, ⊎_elim, arith}
 use Rattle.std.specs.Prelude.{Option, Some, None, slice_set, slice_index}
 use Rattle.std.proofs.lemmas.List.{set-get_or, get_or_past, set_past}
-use Rattle.std.proofs.lemmas.Bool.Decides.{eqb_tells}
 use mathlib.Core.Option as maybe
 use mathlib.Core.Option.{some, none, some-injective, some-ne-none}
 use lib.ListN.{get_elem?}
 use prog.Atomic.{either}
 use Rattle.atomic_table.specs.Table.{State, Me, Act, Valid, homes_after, carried_after, Allows}
-use Rattle.atomic_table.proofs.Lists.{at_set, set_here, set_else}
+use Rattle.atomic_table.proofs.Lists.{at_set}
 use Rattle.pool_words.specs.declared.words.Key.{Key}
 use Rattle.pool_words.specs.declared.words.Word.{Word}
 use Rattle.pool_words.specs.declared.actions.Action.{Action}
@@ -23,7 +22,7 @@ use Rattle.step_local.specs.declared.frames.Local.{Local}
 use Rattle.step_local.specs.Course.{course}
 use Rattle.step_local.specs.Learn.{learn}
 use Rattle.step_runs.specs.declared.entry.Entry.{Entry}
-use Rattle.step_runs.specs.Places.{has_word, Carry, away, in_slot, in_hand, carry_of, HasDesk}
+use Rattle.step_runs.specs.Places.{has_word, Carry, carry_of, HasDesk}
 use Rattle.step_runs.specs.Places.{Move, stays, takes, gives, move_of}
 use Rattle.step_runs.specs.Entries.{seen_by, learnt, first_entry}
 use Rattle.step_runs.specs.Runs.{Callback, Silent, home_after, Run}

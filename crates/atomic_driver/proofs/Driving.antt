@@ -1,7 +1,7 @@
 -- What stays true of a seat over its turns.
 use Rattle.std.proofs.Common.{◌≡◌, ℕ, zero, suc, ◌+◌, Bool, true, false, List, [], ◌∷◌, refl, sym, ap, ◌∙◌, subst}
 use Rattle.std.specs.Prelude.{Option, Some, None, Result, Ok, Err, slice_set}
-use mathlib.Core.Option.{some, none, some-injective, some-ne-none}
+use mathlib.Core.Option.{some, some-injective, some-ne-none}
 use lib.ListN.{get_elem?}
 use Rattle.pool_types.specs.declared.policy.RegionRec.{RegionRec}
 use Rattle.pool_types.specs.declared.values.Request.{Request}
@@ -21,9 +21,9 @@ use Rattle.step_local.specs.Getting.{begun}
 use Rattle.step_local.specs.Learn.{learn}
 use Rattle.step_runs.specs.declared.entry.Entry.{Entry}
 use Rattle.step_runs.specs.Places.{has_word, Carry, away, in_slot, in_hand, carry_of, HasDesk}
-use Rattle.step_runs.specs.Places.{Move, stays, takes, gives, move_of, gives_at, gives_of, passed_of}
+use Rattle.step_runs.specs.Places.{Move, stays, takes, gives, move_of, gives_at, gives_of}
 use Rattle.step_runs.specs.Entries.{seen_by, desk_after, learnt}
-use Rattle.step_runs.specs.Runs.{Callback, Silent, Passes, seen_answer}
+use Rattle.step_runs.specs.Runs.{Callback, Silent, Passes}
 use Rattle.step_runs.specs.Runs.Silent.{rests, begins, answers, obtains, takes_out, puts_back}
 use Rattle.step_runs.specs.Laws.{Onward}
 use Rattle.step_runs.proofs.CallerLemmas.{steps_go_onward, other_turns_lead, has_step, silence_keeps_desk, IsHome}
@@ -31,7 +31,7 @@ use Rattle.step_runs.proofs.CallerLemmas.{Has, Keeps}
 use Rattle.step_runs.proofs.CallerLemmas.{silence_keeps, desk_has, has_some}
 use Rattle.atomic_table.specs.Table.{Me, rest}
 use Rattle.atomic_driver.specs.declared.rule.View.{View}
-use Rattle.atomic_driver.specs.Steps.{word_of, view_after, Carried, SlotOut, Ready, Steps, own_of}
+use Rattle.atomic_driver.specs.Steps.{word_of, Carried, SlotOut, Ready, Steps, own_of}
 use Rattle.atomic_driver.specs.Steps.{desk_at}
 use Rattle.atomic_driver.specs.Steps.{Driven, ActsOnWord, ActsElse, ActsBy, Acts, Taken}
 use Rattle.atomic_driver.proofs.Allowed.{word_is}

@@ -1,13 +1,12 @@
 -- How seats are cut off a place.
-use Rattle.std.proofs.Common.{◌≡◌, ◌≢◌, ◌⊎◌, ℕ, zero, suc, ◌+◌, ◌<◌, ◌≤◌, Bool, true, false, cond, eqb, List, [], ◌∷◌}
-use Rattle.std.proofs.Common.{◌++◌, length, length-set, replicate, refl, sym, ap, ◌∙◌, subst, inl, inr, ⊎_elim, arith}
-use Rattle.std.specs.Prelude.{Option, Some, None, slice_set, nat_lt, ◌==◌, ◌||◌}
-use Rattle.std.proofs.lemmas.List.{set-get_or}
+use Rattle.std.proofs.Common.{◌≡◌, ◌≢◌, ◌⊎◌, ℕ, zero, suc, ◌+◌, ◌<◌, Bool, List, [], ◌∷◌}
+use Rattle.std.proofs.Common.{◌++◌, length, length-set, replicate, refl, sym, ap, ◌∙◌, subst, inl, ⊎_elim, arith}
+use Rattle.std.specs.Prelude.{Option, Some, None, slice_set}
 use mathlib.Core.Option as maybe
-use mathlib.Core.Option.{some, none, some-injective, some-ne-none}
+use mathlib.Core.Option.{some, some-injective, some-ne-none}
 use lib.ListN.{get_elem?}
 use Rattle.atomic_table.specs.Table.{State, Me, Act, Allows, Splits, Joins}
-use Rattle.atomic_table.proofs.Lists.{at_set, set_else, set_again}
+use Rattle.atomic_table.proofs.Lists.{at_set}
 use Rattle.pool_words.specs.declared.words.Key.{Key}
 use Rattle.pool_words.specs.Words.{words_of}
 use Rattle.word_laws.specs.Memory.{put}
@@ -19,7 +18,6 @@ use Rattle.step_runs.specs.Runs.Run.{opened}
 use Rattle.atomic_driver.specs.declared.rule.Note.{Note}
 use Rattle.atomic_driver.specs.declared.rule.View.{View}
 use Rattle.atomic_driver.specs.Rule.{Rule, Tied, IsTied, Noted, IsNoted, home_of, plain, first_entries, first_view}
-use Rattle.pool_types.specs.Limits.{most_seats}
 use Rattle.pool_types.specs.Policies.{IsAllowed}
 use Rattle.pool_types.specs.declared.policy.Limits.{Limits}
 use Rattle.pool_types.specs.declared.policy.Policy.{Policy}
@@ -37,14 +35,6 @@ use Rattle.atomic_driver.proofs.Looks.{at_end}
 pub noteless : {D : Type 0} (v : View D) (es : List (Entry D)) (note : Note D) → plain es ≡ v → v.note ≡ Some note
     → ⊥
 noteless v es note is e = no_note (plain es) v note is refl e
-
--- a pool that may be made has seats
-pub some_seats : (policy : Policy) (limits : Limits) → IsAllowed policy limits → 0 < limits.seats
-some_seats policy limits allowed = by limits.seats (nat_lt most_seats limits.seats) allowed.limits_in.0.0
-  where
-    by : (n : ℕ) (high : Bool) → (n == 0 || high) ≡ false → 0 < n
-    by zero high e = absurd (let z : true ≡ false = e in cc)
-    by (suc n) high e = omega arith
 
 -- the first entry, where there is one
 pub own_same : {D : Type 0} (k other : Key) (es : List (Entry D)) → 0 < length es → own_of other es ≡ own_of k es

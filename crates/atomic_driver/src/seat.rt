@@ -138,7 +138,7 @@ impl<R: Raw> DriverSeat<R> {
     }
 
     /// Makes the turn that comes next at this table.
-    pub(crate) fn turn_at(&mut self, shared: &Top<R>) -> Turn
+    pub fn turn_at(&mut self, shared: &Top<R>) -> Turn
         requires table { self.old.place.table_id ≡ shared.now.table_id }
         requires sizes { IsTable shared.now.table_id self.old.key }
         requires plan { shared.now.key ≡ self.old.plan }

@@ -32,15 +32,11 @@ use Rattle.step_local.specs.declared.frames.Stage.{Stage}
 use Rattle.step_local.specs.Course.{course}
 use Rattle.pool_types.specs.declared.values.InCall.{InCall}
 use Rattle.step_local.specs.Getting.{begun, begun_as, asked_for, is_idle}
-use Rattle.step_local.specs.Frames.{made}
-use Rattle.step_runs.specs.Entries.{first_entry}
 use Rattle.atomic_driver.specs.Seating.{HasSeats}
-use mathlib.Core.Option.{some}
-use lib.ListN.{get_elem?}
 use Rattle.step_local.specs.Learn.{learn}
 use Rattle.step_runs.specs.declared.entry.Entry.{Entry}
 use Rattle.step_runs.specs.declared.entry.Told.{Told}
-use Rattle.step_runs.specs.Entries.{learnt, seen_by, told_at, told_by}
+use Rattle.step_runs.specs.Entries.{seen_by, told_at, told_by}
 use Rattle.step_runs.specs.Places.{has_word}
 use Rattle.std.specs.Prelude.{Option}
 use Rattle.pool_types.specs.declared.raw.Raw.{Ghosts}
@@ -62,7 +58,7 @@ use Rattle.call_laws.specs.Calls.{
   is_resetting,
 }
 use Rattle.call_laws.proofs.CallerLemmas.{turns_keep_calls, answers_alone, calls_begin}
-use Rattle.pool_api.specs.Heaps.{IsResting, is_going, Goes, Answers, IsTold, CalledBy, told, answers_after}
+use Rattle.pool_api.specs.Heaps.{IsResting, is_going, Goes, Answers, IsTold, CalledBy, told}
 use Rattle.pool_api.specs.Heaps.{entry_of, IsHeap, IsFresh, AreFresh}
 
 told_none_by : (request : Request) (turn : Turn) → is_going turn ≡ true → told_by request turn ≡ []

@@ -8,7 +8,9 @@
 mod calls;
 mod named;
 mod pools;
+mod tables;
 
 pub use calls::call;
 pub use named::{aligned, aligned_realloc, exit, free, identify, malloc, msize, realloc};
 pub use pools::{Heap, Pool, create};
+pub use tables::{Rest, Table, call_at, part, unite};

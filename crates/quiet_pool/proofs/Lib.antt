@@ -1,0 +1,11 @@
+pub mod Lists
+pub mod Places
+pub mod Notes
+pub mod Stepping
+pub mod Turns
+pub mod States
+pub mod Parts
+pub mod Heaps
+pub mod Asked
+pub mod Quiets
+pub mod CallerLemmas

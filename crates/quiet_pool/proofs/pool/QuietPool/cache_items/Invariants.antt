@@ -1,0 +1,12 @@
+use Rattle.step_local.specs.Frames.{made}
+use Rattle.quiet_pool.proofs.pool.QuietPool.cache_items.Given as goal
+
+abbrev pub ghosts-cache_items_as : goal.ghosts-cache_items_as
+ghosts-cache_items_as g a = record {
+  plan = a.plan.now;
+  table = a.place.table_id;
+  me = a.place.me;
+  seat = 0;
+  now =
+      made a.key.now 0;
+}
