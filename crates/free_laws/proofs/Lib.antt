@@ -1,0 +1,10 @@
+pub mod Words
+pub mod Seats
+pub mod Calm
+pub mod Guarded
+pub mod Binned
+pub mod Queued
+pub mod Used
+pub mod Keeps
+pub mod Places
+pub mod Examples

@@ -1,0 +1,10 @@
+pub mod Premises
+pub mod Lists
+pub mod Fresh
+pub mod Elsewhere
+pub mod Ties
+pub mod Pushing
+pub mod Fetching
+pub mod Orphaned
+pub mod Returned
+pub mod Keeps

@@ -1,0 +1,5 @@
+pub mod Status
+pub mod Granules
+pub mod Pools
+pub mod Keeps
+pub mod Examples

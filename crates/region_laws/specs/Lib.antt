@@ -1,0 +1,5 @@
+pub mod Granules
+pub mod Steps
+pub mod Named
+pub mod Laws
+pub mod Wrong

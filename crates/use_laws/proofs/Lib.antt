@@ -1,0 +1,15 @@
+pub mod Blocks
+pub mod Uses
+pub mod Bare
+pub mod Quiet
+pub mod Words
+pub mod Plain
+pub mod Small
+pub mod Large
+pub mod Slabs
+pub mod Keeps
+pub mod Stays
+pub mod Far
+pub mod Apart
+pub mod Examples
+pub mod CallerLemmas

@@ -1,0 +1,9 @@
+pub mod Uses
+pub mod Pools
+pub mod After
+pub mod Steps
+pub mod Stays
+pub mod Apart
+pub mod Named
+pub mod Laws
+pub mod Wrong
