@@ -1,0 +1,9 @@
+pub mod Words
+pub mod Kept
+pub mod Resets
+pub mod Small
+pub mod Large
+pub mod Backend
+pub mod Begun
+pub mod Turns
+pub mod CallerLemmas
