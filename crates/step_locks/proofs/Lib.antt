@@ -1,0 +1,16 @@
+pub mod Free
+pub mod FreeResets
+pub mod FreeSmall
+pub mod FreeLarge
+pub mod FreeBackend
+pub mod Begun
+pub mod OnBins
+pub mod OnPuts
+pub mod OnCaches
+pub mod Onward
+pub mod OnLocks
+pub mod Families
+pub mod Runs
+pub mod UnderLocks
+pub mod LockedWords
+pub mod CallerLemmas
