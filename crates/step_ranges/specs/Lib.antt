@@ -1,0 +1,5 @@
+pub mod Ranges
+pub mod Jobs
+pub mod Locals
+pub mod Laws
+pub mod Named
