@@ -1,0 +1,4 @@
+pub mod Units
+pub mod Regions
+pub mod Leaks
+pub mod CallerLemmas

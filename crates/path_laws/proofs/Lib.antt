@@ -1,0 +1,12 @@
+pub mod Fits
+pub mod Paying
+pub mod Small
+pub mod Large
+pub mod Backend
+pub mod Objects
+pub mod Turns
+pub mod Begun
+pub mod Parts
+pub mod Runs
+pub mod Examples
+pub mod CallerLemmas

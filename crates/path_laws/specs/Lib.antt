@@ -1,0 +1,4 @@
+pub mod Pays
+pub mod Owing
+pub mod Laws
+pub mod Examples
