@@ -1,0 +1,11 @@
+pub mod Started
+pub mod StartedResets
+pub mod StartedSmall
+pub mod StartedLarge
+pub mod StartedBackend
+pub mod Lands
+pub mod Begun
+pub mod Turns
+pub mod ObjectTurns
+pub mod MailTurns
+pub mod CallerLemmas

@@ -1,0 +1,4 @@
+pub mod Objects
+pub mod Mail
+pub mod Lands
+pub mod Laws
