@@ -6,7 +6,11 @@ The calls of a case are made by `turn_bench`, so and so many times over and thre
 needs to begin counts in neither. On a machine that does other work too the times are greater.
 
 Run it at the top of the repository after .ci/run: python3 bench/turns.py [PROGRAM]
+
+With --allocations it prints in place of that how many allocations the turns make that follow each case's first rounds,
+as valgrind counts those of the whole program: none, since all room is kept.
 """
+import re
 import resource
 import subprocess
 import sys
@@ -25,6 +29,11 @@ CASES = {
 # How often each is timed; the least time counts.
 RUNS = 5
 
+# The rounds after which every room is had, and the more rounds of which the allocations count. Both have as many
+# digits, so that the line that names them takes as much room.
+FIRST_ROUNDS = 100
+ALL_ROUNDS = 300
+
 
 def spent():
     """The seconds of the processor that the programs which were run have taken."""
@@ -40,14 +49,37 @@ def run(program, case, rounds):
     return spent() - before, int(calls), int(turns)
 
 
-def main():
-    program = sys.argv[1] if len(sys.argv) > 1 else PROGRAM
+def allocated(program, case, rounds):
+    """How many allocations the program makes for so many rounds, and how many turns they are."""
+    command = ["valgrind", "--leak-check=no", program]
+    done = subprocess.run(command, input=f"{case} {rounds}\n", capture_output=True, check=True, text=True)
+    count = re.search(r"total heap usage: ([\d,]+) allocs", done.stderr)[1]
+    return int(count.replace(",", "")), int(done.stdout.split()[2])
+
+
+def count_allocations(program):
+    for case in CASES:
+        first, all_turns = allocated(program, case, FIRST_ROUNDS), allocated(program, case, ALL_ROUNDS)
+        count, turns = (more - less for more, less in zip(all_turns, first))
+        print(f"{case}: {count} allocations in {turns} turns")
+
+
+def time_turns(program):
     for case, rounds in CASES.items():
         few = min(run(program, case, rounds) for _ in range(RUNS))
         many = min(run(program, case, 3 * rounds) for _ in range(RUNS))
         seconds, calls, turns = (more - less for more, less in zip(many, few))
         each = f"{1e9 * seconds / turns:.0f} ns a turn, {turns / seconds / 1e6:.1f} million turns a second"
         print(f"{case}: {turns / calls:.1f} turns a call, {each}")
+
+
+def main():
+    words = [word for word in sys.argv[1:] if word != "--allocations"]
+    program = words[0] if words else PROGRAM
+    if "--allocations" in sys.argv:
+        count_allocations(program)
+    else:
+        time_turns(program)
 
 
 if __name__ == "__main__":

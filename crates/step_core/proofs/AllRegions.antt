@@ -1,5 +1,5 @@
 -- All regions, one after another.
-use Rattle.std.proofs.Common.{◌≡◌, ℕ, suc, ◌+◌, ◌≤◌, Bool, true, false, arith, ap, ◌∙◌, sym, refl, List, [], ◌∷◌, length, subst, length-append}
+use Rattle.std.proofs.Common.{◌≡◌, ℕ, suc, ◌+◌, ◌≤◌, Bool, true, false, arith, ap, ◌∙◌, refl, List, [], ◌∷◌, length, subst, length-append}
 use Rattle.pool_types.specs.Limits.{most_regions}
 use Rattle.pool_types.specs.declared.endings.Destroyed.{Destroyed}
 use Rattle.pool_types.specs.declared.policy.RegionRec.{RegionRec}

@@ -1,5 +1,5 @@
 -- The region with the lowest number, which is the first that is passed on.
-use Rattle.std.proofs.Common.{◌≡◌, ℕ, ◌+◌, ◌<◌, ◌≤◌, Bool, true, arith, ap, sym, refl, List, [], ◌∷◌, ◌⊎◌, inl, inr, length, get_or, subst, Some}
+use Rattle.std.proofs.Common.{◌≡◌, ℕ, ◌<◌, ◌≤◌, Bool, arith, ap, sym, List, [], ◌∷◌, ◌⊎◌, inl, inr, length, get_or, subst, Some}
 use Rattle.std.specs.Prelude.{remove, slice_get}
 use Rattle.std.specs.List.{AllPairs}
 use Rattle.std.proofs.lemmas.Bool.{cases_lt}

@@ -1,14 +1,15 @@
 -- A seat's step, put together from what its parts ensure.
-use Rattle.std.proofs.Common.{◌≡◌, ℕ, ◌<◌, Bool, List, refl, sym, ap, subst, ◌∙◌, ◌++◌, length, get_or, take, drop}
+use Rattle.std.proofs.Common.{◌≡◌, ℕ, ◌<◌, ◌≤◌, Bool, true, false, List, refl, sym, ap, subst, ◌∙◌, ◌++◌, length, get_or, take, drop}
 use Rattle.std.specs.Prelude.{Option, Some, None, slice_get, slice_set}
 use Rattle.std.proofs.lemmas.List.{take_at}
-use Rattle.std.proofs.lemmas.Option.{slice_get_read}
+use Rattle.std.proofs.lemmas.Option.{slice_get_read, slice_get_past}
 use Rattle.pool_types.specs.declared.policy.RegionRec.{RegionRec}
 use Rattle.pool_types.specs.declared.rows.Row.{Row}
 use Rattle.pool_types.specs.declared.values.Region.{Region}
 use Rattle.pool_types.specs.declared.values.Turn.{Turn}
 use Rattle.pool_words.specs.Actions.{finds}
 use Rattle.pool_words.specs.declared.words.Key.{Key}
+use Rattle.pool_words.specs.declared.actions.Action.{Action}
 use Rattle.pool_words.specs.declared.actions.Seen.{Seen}
 use Rattle.part_model.specs.declared.journal.Journaled.{Journaled}
 use Rattle.part_model.specs.declared.totals.Totals.{Totals}
@@ -21,9 +22,13 @@ use Rattle.step_parts.specs.Tallies.{totals_after}
 use Rattle.step_parts.specs.declared.journal.StepName.{StepName}
 use Rattle.step_core.specs.Machines.{Machine}
 use Rattle.step_core.specs.Steps.{step_of, name_of, name_of_seat, name_at, told_of_seat, told_at, made_by}
-use Rattle.step_core.specs.Turns.{moves_in, found_in, stepped, StepsOf, StepsBy, StepsAt}
+use Rattle.step_core.specs.Turns.{moves_in, found_in, stepped, rested, entered, answered, StepsBy, StepsAt, StepsIn}
 use Rattle.step_core.specs.declared.resets.Resetting.{Resetting}
 use Rattle.step_core.specs.declared.steps.Step.{Step}
+
+-- a step by its parts
+abbrev pub step_by : Action → Option ℕ → Row → Step
+step_by action gives row = record { action = action; gives = gives; row = row }
 
 -- the element at an index below the end
 pub there_is : {X : Type 0} (xs ys : List X) (i j : ℕ) (x : X) → ys ≡ xs → i ≡ j → i < length ys → x ≡ get_or ys i x →
@@ -31,6 +36,11 @@ pub there_is : {X : Type 0} (xs ys : List X) (i j : ℕ) (x : X) → ys ≡ xs �
 there_is xs ys i j x same is below there =
     subst (λ l. slice_get l j ≡ Some x) same (subst (λ k. slice_get ys k ≡ Some x) is
     (slice_get_read ys (length ys) i x refl below there))
+
+-- no element at an index behind the end
+pub there_is_none : {X : Type 0} (xs ys : List X) (i j : ℕ) → ys ≡ xs → i ≡ j → length ys ≤ i → slice_get xs j ≡ None
+there_is_none xs ys i j same is past =
+    subst (λ l. slice_get l j ≡ None) same (subst (λ k. slice_get ys k ≡ None) is (slice_get_past ys i past))
 
 pub name_there : (locals : List Local) (seat steps : ℕ) (l : Local) (step : Step) (name : StepName) →
     slice_get locals seat ≡ Some l → step ≡ step_of l → name ≡ name_of step seat steps → name ≡ name_at locals seat steps
@@ -57,6 +67,19 @@ moves_there k k' words words' records records' l found moves key same out are =
     are ∙ ap (λ x. moves_of x words' records' l found) key ∙ ap (λ x. moves_of k x records' l found) same
     ∙ ap (λ x. moves_of k words x l found) out
 
+-- where no answer is asked, none is entered
+not_entered : (name : StepName) (turn : Turn) (entries : List Journaled) → entered false name turn entries ≡ entries
+not_entered name (Turn.Done answer) entries = refl
+not_entered name Turn.Stepped entries = refl
+not_entered name (Turn.Waits awaited) entries = refl
+not_entered name Turn.Idle entries = refl
+
+-- a step by its parts
+pub same_step : (action action' : Action) (gives gives' : Option ℕ) (row row' : Row) → action ≡ action' →
+    gives ≡ gives' → row ≡ row' → step_by action gives row ≡ step_by action' gives' row'
+same_step action action' gives gives' row row' actions all rows =
+    ap (λ a. step_by a gives row) actions ∙ ap (λ g. step_by action' g row) all ∙ ap (step_by action' gives') rows
+
 module _ {R : Type 0} where
   -- a machine by its parts
   abbrev pub whole : Stock R → List Local → List Journaled → Totals → Option Row → ℕ → Option Resetting → Machine R
@@ -78,6 +101,15 @@ module _ {R : Type 0} where
       ap (λ x. whole stock x es ts m n resetting) locals ∙ ap (λ x. whole stock ls' x ts m n resetting) entries
       ∙ ap (λ x. whole stock ls' es' x m n resetting) totals ∙ ap (λ x. whole stock ls' es' ts' x n resetting) made
       ∙ ap (λ x. whole stock ls' es' ts' m' x resetting) steps
+
+  -- a machine with an answer, by its parts
+  pub answers_whole : (name : StepName) (turn : Turn) (stock : Stock R) (resetting : Option Resetting)
+      (ls : List Local) (es : List Journaled) (ts : Totals) (m : Option Row) (n : ℕ) →
+      whole stock ls (entered true name turn es) ts m n resetting ≡ answered name turn (whole stock ls es ts m n resetting)
+  answers_whole name (Turn.Done answer) stock resetting ls es ts m n = refl
+  answers_whole name Turn.Stepped stock resetting ls es ts m n = refl
+  answers_whole name (Turn.Waits awaited) stock resetting ls es ts m n = refl
+  answers_whole name Turn.Idle stock resetting ls es ts m n = refl
 
 module _ {R : Type 0} (out : R → List Region) (faults : R → ℕ) (got : R → ℕ → Option Region → R → Type 0)
     (passed : R → Region → Bool → R → Type 0) where
@@ -115,3 +147,32 @@ module _ {R : Type 0} (out : R → List Region) (faults : R → ℕ) (got : R �
         turn_is = turn_is ∙ ap (λ o. (told_of_seat o old.locals seat seen).1) there;
         after = same_whole stock old.resetting locals _ entries _ totals _ made _ name.step _ e_locals e_entries e_totals e_made e_steps;
       })
+
+  -- and its answer is entered, where that is asked
+  pub enters_there : (enters : Bool) (old : Machine R) (seat : ℕ) (turn : Turn) (name : StepName) (stock : Stock R)
+      (locals : List Local) (entries now : List Journaled) (totals : Totals) (made : Option Row) (steps : ℕ) →
+      StepsAt out faults got passed old seat turn (whole stock locals entries totals made steps old.resetting) →
+      name ≡ name_at old.locals seat old.steps → now ≡ entered enters name turn entries →
+      StepsIn out faults got passed enters old seat turn (whole stock locals now totals made steps old.resetting)
+  enters_there true old seat turn name stock locals entries now totals made steps at name_is now_is = record {
+    middle = whole stock locals entries totals made steps old.resetting;
+    steps = at;
+    after = same_whole stock old.resetting locals locals now _ totals totals made made steps steps refl
+        (now_is ∙ ap (λ n. entered true n turn entries) name_is) refl refl refl
+        ∙ answers_whole (name_at old.locals seat old.steps) turn stock old.resetting locals entries totals made steps;
+  }
+  enters_there false old seat turn name stock locals entries now totals made steps at name_is now_is =
+      subst (λ es. StepsAt out faults got passed old seat turn (whole stock locals es totals made steps old.resetting))
+      (sym (now_is ∙ not_entered name turn entries)) at
+
+  -- a seat that the pool has not makes no step, and has no answer
+  pub rests_there : (enters : Bool) (old : Machine R) (seat : ℕ) (turn : Turn) (new : Machine R) →
+      slice_get old.locals seat ≡ None → turn ≡ Turn.Idle → new ≡ rested old →
+      StepsIn out faults got passed enters old seat turn new
+  rests_there true old seat turn new none turn_is new_is = record {
+    middle = new;
+    steps = subst (λ o. StepsBy out faults got passed o old seat turn new) (sym none) (turn_is, new_is);
+    after = ap (λ t. answered (name_at old.locals seat old.steps) t new) (sym turn_is);
+  }
+  rests_there false old seat turn new none turn_is new_is =
+      subst (λ o. StepsBy out faults got passed o old seat turn new) (sym none) (turn_is, new_is)

@@ -1,5 +1,5 @@
 -- What a machine shows, and the first one.
-use Rattle.std.specs.Prelude.{ℕ, zero, suc, Bool, true, false, not, List, [], ◌∷◌, ◌++◌, Option, Some, None, slice_get, cond, ◌+◌, ◌%◌, ◌^◌}
+use Rattle.std.specs.Prelude.{ℕ, zero, suc, Bool, false, not, List, [], ◌∷◌, ◌++◌, Option, Some, None, slice_get, cond, ◌+◌, ◌%◌, ◌^◌}
 use Rattle.pool_types.specs.declared.policy.Limits.{Limits}
 use Rattle.pool_types.specs.declared.policy.Policy.{Policy}
 use Rattle.pool_types.specs.declared.rows.Row.{Row}

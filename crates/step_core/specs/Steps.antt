@@ -1,5 +1,5 @@
 -- The step that comes next at a seat, and what the seat makes of it.
-use Rattle.std.specs.Prelude.{ℕ, ◌+◌, ◌%◌, ◌^◌, Bool, true, false, cond, List, Option, Some, None, slice_get, slice_set, Result, Ok, Err}
+use Rattle.std.specs.Prelude.{ℕ, ◌+◌, ◌%◌, ◌^◌, cond, List, Option, Some, None, slice_get, slice_set, Result, Err}
 use Rattle.pool_types.specs.declared.rows.Row.{Row}
 use Rattle.pool_types.specs.declared.values.InCall.{InCall}
 use Rattle.pool_types.specs.declared.values.Request.{Request}

@@ -1,5 +1,6 @@
 -- What a turn leaves.
-use Rattle.std.specs.Prelude.{◌≡◌, ℕ, Bool, List, [], Option, Some, None, slice_get, slice_set, Result, Ok, Err}
+use Rattle.std.specs.Prelude.{◌≡◌, ℕ, Bool, true, false, List, [], Option, Some, None, slice_get, slice_set, Result, Err}
+use Rattle.part_model.specs.declared.journal.Journaled.{Journaled}
 use Rattle.pool_types.specs.declared.values.InCall.{InCall}
 use Rattle.pool_types.specs.declared.values.Region.{Region}
 use Rattle.pool_types.specs.declared.values.Request.{Request}
@@ -17,6 +18,11 @@ use Rattle.step_parts.specs.declared.journal.StepName.{StepName}
 use Rattle.step_core.specs.Machines.{Machine}
 use Rattle.step_core.specs.Steps.{step_of, gives_at, name_of, name_at, begun_at, made_by, counted}
 use Rattle.step_core.specs.declared.resets.Resetting.{Resetting}
+
+-- these entries, and where that is asked the answer of a turn
+abbrev pub entered : Bool → StepName → Turn → List Journaled → List Journaled
+entered true name (Turn.Done answer) entries = with_answer name answer entries
+entered _ name turn entries = entries
 
 module _ {R : Type 0} where
   abbrev pub begun_by : Option Resetting → Machine R → ℕ → Request → Machine R × Result Unit InCall
@@ -80,6 +86,11 @@ module _ {R : Type 0} (out : R → List Region) (faults : R → ℕ) (got : R �
     pub middle : Machine R
     pub steps : StepsAt old seat turn middle
     pub after : new ≡ answered (name_at old.locals seat old.steps) turn middle
+
+  -- a seat makes its step, and where that is asked its answer is entered
+  abbrev pub StepsIn : Bool → Machine R → ℕ → Turn → Machine R → Type 0
+  StepsIn true old seat turn new = Answers old seat turn new
+  StepsIn false old seat turn new = StepsAt old seat turn new
 
   abbrev pub TurnsBy : Option Resetting → Machine R → ℕ → Turn → Machine R → Type 0
   TurnsBy (Some part) old seat turn new = (turn ≡ Turn.Idle) × (new ≡ rested old)

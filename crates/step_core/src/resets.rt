@@ -89,8 +89,8 @@ impl<R: Raw> PlainMachine<R> {
     }
 
     /// What follows a turn of a part, and whether the reset is done.
-    fn follows(&mut self, part: Resetting, turn: Turn) -> bool
-        ensures { (self.new, result) ≡ part_turned part turn self.old }
+    fn follows(&mut self, part: Resetting, turn: &Turn) -> bool
+        ensures { (self.new, result) ≡ part_turned part turn.now self.old }
     {
         match turn {
             Turn::Done(_) => {
@@ -108,8 +108,10 @@ impl<R: Raw> PlainMachine<R> {
         ensures turns { IfOk result (λ done. PartTurns R.out R.faults R.got R.passed self.old part done self.new) }
         ensures kept { OnErr result (self.new ≡ self.old) }
     {
-        let (turn, _) = self.steps_at(part.seat())?;
-        Ok(self.follows(part, turn))
+        match self.steps_in(false, part.seat()) {
+            Ok(turn) => Ok(self.follows(part, &turn)),
+            Err(error) => Err(error),
+        }
     }
 
     /// Makes the next step of a reset, and tells whether it is done. The error is a want of memory, and then nothing

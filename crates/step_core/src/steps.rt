@@ -1,16 +1,17 @@
 //! The step that comes next at a seat, and what the seat makes of it.
 
-ghost use Rattle.std.specs.Prelude.{◌≡◌};
-ghost use Rattle.step_core.specs.Steps.{gives_for, gives_at, step_of, name_of, begun_at, told_at, made_by, counted};
+ghost use Rattle.std.specs.Prelude.{◌≡◌, Some, None, cond};
+ghost use Rattle.step_local.specs.Rows.{is_made};
+ghost use Rattle.step_core.specs.Steps.{gives_for, gives_at, begun_at, told_at, counted};
 
 use pool_types::{InCall, Request, Row, Turn};
 use pool_words::{Action, Seen};
 use region_steps::OfficeAt;
-use step_local::{At, Local, OfficeFor, is_made, row_of};
+use step_local::{At, Local, OfficeFor, is_made};
 use step_parts::StepName;
 
 /// The step that comes next: its action, the index at which a region begins that is passed to the callback with it, and
-/// the kind of step that it is.
+/// the kind of step that it is. Contracts speak of it; the code keeps the three apart, so that no action is copied.
 #[derive(Clone, Copy)]
 pub struct Step {
     pub action: Action,
@@ -31,7 +32,7 @@ fn gives_for(job: OfficeFor) -> Option<u32>
 }
 
 /// The index at which a region begins that is passed to the callback with the step of a position.
-fn gives_at(at: At) -> Option<u32>
+pub fn gives_at(at: At) -> Option<u32>
     ensures { result ≡ gives_at at }
 {
     match at {
@@ -43,25 +44,14 @@ fn gives_at(at: At) -> Option<u32>
     }
 }
 
-/// The step that comes next.
-pub fn step_of(local: &Local) -> Step
-    ensures { result ≡ step_of local.now }
-{
-    Step {
-        action: local.next(),
-        gives: gives_at(local.at),
-        row: row_of(local.at),
-    }
-}
-
 /// Which step it is, by the number of the steps before it.
-pub fn name_of(step: Step, seat: u8, steps: u64) -> StepName
-    ensures { result ≡ name_of step seat steps }
+pub fn name_of(action: &Action, row: Row, seat: u8, steps: u64) -> StepName
+    ensures { result ≡ record { step = counted action.now steps; seat = seat; row = row } }
 {
     StepName {
-        step: step.counted(steps),
+        step: counted(action, steps),
         seat,
-        row: step.row,
+        row,
     }
 }
 
@@ -90,25 +80,23 @@ pub fn tell(locals: &mut [Local], seat: usize, seen: Seen) -> Turn
     }
 }
 
-impl Step {
-    /// Its kind, where it counts as made.
-    pub fn made(self, seen: Seen) -> Option<Row>
-        ensures { result ≡ made_by self seen }
-    {
-        if is_made(self.action, seen) {
-            Some(self.row)
-        } else {
-            None
-        }
+/// The kind of a step, where it counts as made.
+pub fn made(action: &Action, row: Row, seen: Seen) -> Option<Row>
+    ensures { result ≡ cond (is_made action.now seen) (Some row) None }
+{
+    if is_made(*action, seen) {
+        Some(row)
+    } else {
+        None
     }
+}
 
-    /// How many steps there are with it: as many where it is none.
-    fn counted(self, steps: u64) -> u64
-        ensures { result ≡ counted self.action steps }
-    {
-        match self.action {
-            Action::Nothing => steps,
-            _ => steps.saturating_add(1),
-        }
+/// How many steps there are with one more action: as many where it makes none.
+fn counted(action: &Action, steps: u64) -> u64
+    ensures { result ≡ counted action.now steps }
+{
+    match action {
+        Action::Nothing => steps,
+        _ => steps.saturating_add(1),
     }
 }

@@ -1,14 +1,25 @@
 //! Calls that begin, and turns.
 
 ghost use Rattle.std.specs.Prelude.{◌≡◌, IfOk, OnErr};
-ghost use Rattle.step_core.specs.Steps.{name_at};
-ghost use Rattle.step_core.specs.Turns.{begun_in, rested, answered, StepsAt, Answers, Turns};
+ghost use Rattle.step_core.specs.Turns.{begun_in, rested, entered, StepsIn, Turns};
 
 use crate::machine::PlainMachine;
-use crate::steps::{begin, name_of, step_of, tell};
-use pool_types::{InCall, Raw, Request, Row, Turn};
+use crate::steps::{begin, gives_at, made, name_of, tell};
+use pool_types::{InCall, Raw, Request, Turn};
 use std::alloc::{AllocError, Global};
-use step_parts::{StepName, add_parts_to, looks_at_bin};
+use step_local::row_of;
+use step_parts::{Journal, StepName, add_parts_to, looks_at_bin};
+
+/// The answer of a turn is entered, where that is asked.
+fn enter(journal: &mut Journal, enters: bool, name: StepName, turn: &Turn)
+    ensures { journal.new ≡ entered enters name turn.now journal.old }
+{
+    if let Turn::Done(answer) = turn
+        && enters
+    {
+        journal.answer(name, *answer);
+    }
+}
 
 impl<R: Raw> PlainMachine<R> {
     /// Begins a call at a seat. `InCall` is the answer exactly where the seat is in a call, where the pool has no such
@@ -32,57 +43,36 @@ impl<R: Raw> PlainMachine<R> {
         Turn::Idle
     }
 
-    /// A seat makes its step, and learns what that found. With what the turn came to it tells which step it was.
-    pub(crate) fn steps_at(&mut self, seat: u8) -> Result<(Turn, StepName), AllocError>
-        ensures steps { IfOk result (λ came. StepsAt R.out R.faults R.got R.passed self.old seat came.0 self.new) }
-        ensures name { IfOk result (λ came. came.1 ≡ name_at self.old.locals seat self.old.steps) }
+    /// A seat makes its step, and learns what that found; its answer is entered where that is asked.
+    pub(crate) fn steps_in(&mut self, enters: bool, seat: u8) -> Result<Turn, AllocError>
+        ensures steps { IfOk result (λ turn. StepsIn R.out R.faults R.got R.passed enters self.old seat turn self.new) }
         ensures kept { OnErr result (self.new ≡ self.old) }
     {
         let index = usize::from(seat);
         let Some(local) = self.locals.get(index) else {
-            let name = StepName {
-                step: self.steps,
-                seat,
-                row: Row::Nothing,
-            };
-            return Ok((self.rests(), name));
+            return Ok(self.rests());
         };
-        let step = step_of(local);
-        let name = name_of(step, seat, self.steps);
-        let found = self.depot.finds(step.action);
-        self.moves.find(
+        let action = local.next();
+        let gives = gives_at(local.at);
+        let row = row_of(local.at);
+        let name = name_of(&action, row, seat, self.steps);
+        let found = self.depot.finds(action);
+        self.moves.find_with(
             self.depot.words(),
             self.depot.key(),
             self.depot.regions(),
             local,
+            &action,
             found,
         )?;
         self.journal
             .record(name, looks_at_bin(local, found), &self.moves)?;
         add_parts_to(&mut self.totals, self.moves.parts());
-        let seen = self.depot.step(step.action, step.gives);
-        let turn = tell(self.locals.as_mut_slice(), index, seen);
-        self.made = step.made(seen);
+        let seen = self.depot.step(action, gives);
+        self.made = made(&action, row, seen);
         self.steps = name.step;
-        Ok((turn, name))
-    }
-
-    /// The answer of a turn is entered.
-    fn enters(&mut self, name: StepName, turn: Turn)
-        ensures { self.new ≡ answered name turn self.old }
-    {
-        if let Turn::Done(answer) = turn {
-            self.journal.answer(name, answer);
-        }
-    }
-
-    /// A seat makes its step, and its answer is entered.
-    fn answers_at(&mut self, seat: u8) -> Result<Turn, AllocError>
-        ensures answers { IfOk result (λ turn. Answers R.out R.faults R.got R.passed self.old seat turn self.new) }
-        ensures kept { OnErr result (self.new ≡ self.old) }
-    {
-        let (turn, name) = self.steps_at(seat)?;
-        self.enters(name, turn);
+        let turn = tell(self.locals.as_mut_slice(), index, seen);
+        enter(&mut self.journal, enters, name, &turn);
         Ok(turn)
     }
 
@@ -95,7 +85,7 @@ impl<R: Raw> PlainMachine<R> {
     {
         match self.resetting {
             Some(_) => Ok(self.rests()),
-            None => self.answers_at(seat),
+            None => self.steps_in(true, seat),
         }
     }
 }

@@ -1,13 +1,14 @@
 //! The move of a step, whole, in room that is kept from step to step.
 
 ghost use Rattle.std.specs.Prelude.{◌≡◌, OnOk, ◌++◌, ◌∷◌, []};
+ghost use Rattle.step_local.specs.Course.{course};
 ghost use Rattle.step_parts.specs.Moves.{cut_word, moved_spots, keeper_change, chain_book, moved_book};
 ghost use Rattle.step_parts.specs.Moves.{entered_by, region_by};
 
-use crate::positions::moved_by;
+use crate::positions::{may_move, moved_with};
 use part_model::Part;
 use pool_types::{Keeper, KeeperChange, RegionRec};
-use pool_words::{Key, Word, value};
+use pool_words::{Action, Key, Word, value};
 use size_classes::Class;
 use std::alloc::{AllocError, Global};
 use std::marker::Model;
@@ -196,13 +197,34 @@ impl Moves {
     ) -> Result<(), AllocError>
         ensures { OnOk result (self.new ≡ moves_of key.now words.now regions.now local.now found) }
     {
-        match moved_by(local, found) {
-            Moved::Nothing => {
-                self.clear();
-                Ok(())
-            }
-            moved => self.follow(words, key, regions, local.seat, moved),
+        self.find_with(words, key, regions, local, &local.next(), found)
+    }
+
+    /// As `find`, where the action that the step makes is known.
+    #[tactic(auto, unfolding(crate::specs::Moves::moves_of), using(crate::proofs::Quiet::nothing_moves))]
+    pub fn find_with(
+        &mut self,
+        words: &[u64],
+        key: &Key,
+        regions: &[RegionRec],
+        local: &Local,
+        action: &Action,
+        found: u64,
+    ) -> Result<(), AllocError>
+        requires { action.now ≡ course local.now }
+        ensures { OnOk result (self.new ≡ moves_of key.now words.now regions.now local.now found) }
+    {
+        if !may_move(&local.at) {
+            self.clear();
+            return Ok(());
         }
+        self.follow(
+            words,
+            key,
+            regions,
+            local.seat,
+            moved_with(local, action, found),
+        )
     }
 
     /// Nothing moves.

@@ -86,6 +86,9 @@ fn regions_after(regions: u64, parts: &[Part]) -> u64
 pub fn add_parts_to(totals: &mut Totals, parts: &[Part])
     ensures { totals.new ≡ totals_after totals.old parts.now }
 {
+    if parts.is_empty() {
+        return;
+    }
     totals.regions = regions_after(totals.regions, parts);
     for part in parts {
         lessen(totals, part.from, part.range.bytes);

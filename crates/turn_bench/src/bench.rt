@@ -68,8 +68,10 @@ impl Bench {
     fn finish(&mut self, alloc: Global, seat: u8) -> Result<Option<Answer>, AllocError> {
         for _ in 0..MOST_TURNS {
             self.turns = self.turns.saturating_add(1);
-            if let Turn::Done(answer) = self.machine.turn(alloc, seat)? {
-                return Ok(Some(answer));
+            match self.machine.turn(alloc, seat) {
+                Ok(Turn::Done(answer)) => return Ok(Some(answer)),
+                Ok(_) => {}
+                Err(error) => return Err(error),
             }
         }
         Ok(None)

@@ -1,5 +1,4 @@
-use Rattle.std.proofs.Common.{◌≡◌, ◌≤◌, length, take}
-use Rattle.pool_types.specs.Limits.{most_regions}
+use Rattle.std.proofs.Common.{◌≡◌, take}
 use Rattle.step_core.specs.Endings.{all_kept}
 use Rattle.step_core.proofs.endings.keeps_all.Given as goal
 

@@ -1,7 +1,7 @@
 -- Each pass leads on, and the last one to the end.
-use Rattle.std.proofs.Common.{◌≡◌, ◌+◌, ◌-◌, ◌≤◌, ◌<◌, ℕ, suc, arith, ap, sym, length, subst, refl}
+use Rattle.std.proofs.Common.{◌≡◌, ◌+◌, ◌-◌, ◌≤◌, ℕ, suc, arith, sym, length, subst}
 use Rattle.pool_types.specs.declared.endings.Destroyed.{Destroyed}
-use Rattle.step_core.specs.Endings.{no_regions, count_of, PassesAll}
+use Rattle.step_core.specs.Endings.{no_regions, PassesAll}
 use Rattle.step_core.proofs.AllRegions.{GoesOn, goes_on, ends_here, none_of}
 use Rattle.step_core.proofs.endings.passes_all.Goals as goal
 

@@ -1,5 +1,5 @@
 -- The region that has the lowest number is the one that is passed.
-use Rattle.std.proofs.Common.{◌≡◌, Bool, true, false, ap, Some}
+use Rattle.std.proofs.Common.{◌≡◌, true, false, ap, Some}
 use Rattle.std.specs.Prelude.{slice_get}
 use Rattle.step_core.proofs.FirstRegions.{passes_first}
 use Rattle.step_core.proofs.endings.passes_first.Goals as goal

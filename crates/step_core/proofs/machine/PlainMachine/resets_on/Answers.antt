@@ -1,5 +1,5 @@
 -- The turns that were made, and one more.
-use Rattle.std.proofs.Common.{suc, subst, true, false}
+use Rattle.std.proofs.Common.{suc, subst}
 use Rattle.step_core.specs.Resets.{ResetTurns}
 use Rattle.step_core.proofs.machine.PlainMachine.resets_on.Goals as goal
 
