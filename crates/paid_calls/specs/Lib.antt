@@ -1,0 +1,2 @@
+pub mod Earning
+pub mod Laws

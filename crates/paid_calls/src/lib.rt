@@ -1,0 +1,4 @@
+//! What whole calls of a heap, and a thread's lines, granted and freed.
+#![tactic(auto)]
+
+pub mod laws;

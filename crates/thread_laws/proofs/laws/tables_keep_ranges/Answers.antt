@@ -1,0 +1,5 @@
+use Rattle.thread_laws.proofs.Pools.{tables_keep_ranges}
+use Rattle.thread_laws.proofs.laws.tables_keep_ranges.Goals as goal
+
+pub returns : goal.returns
+returns g c = tables_keep_ranges g.R.Raw.out g.R.Raw.faults g.R.Raw.got g.R.Raw.passed
