@@ -1,0 +1,2 @@
+-- What crates above cite.
+pub use Rattle.quiet_heaps.proofs.Places.{in_places}
