@@ -1,0 +1,6 @@
+pub mod Traces
+pub mod Making
+pub mod Gathering
+pub mod Telling
+pub mod Ending
+pub mod Runs
