@@ -6,47 +6,23 @@ use Rattle.report_text.specs.Reports.{ReportView, ended_text}
 use Rattle.trace_reader.specs.declared.acts.Forms.TheVariants as forms
 use Rattle.trace_reader.specs.declared.acts.PoolOption.{PoolOption}
 use Rattle.trace_reader.specs.declared.acts.TraceLine.{TraceLine}
-use Rattle.trace_reader.specs.declared.refusal.Refusal.{Refusal}
 use Rattle.trace_reader.specs.declared.trace.Trace.{Trace}
-use Rattle.trace_reader.specs.Refusals.{refusal_kind}
-use Rattle.trace_reader.specs.Text.{AllRead, FirstRefused, ReadsTrace}
-use Rattle.trace_reader.proofs.CallerLemmas.{traces_are_clear}
+use Rattle.trace_reader.specs.Text.{ReadsTrace}
 use Rattle.trace_runs.specs.declared.ends.Summary.{Summary}
 use Rattle.trace_runs.specs.declared.runs.RunError.{RunError}
 use Rattle.run_laws.proofs.CallerLemmas.{AreSpelledAlike, spelled_alike, threads_alike}
 use Rattle.run_laws.proofs.CallerLemmas.{texts_run_to_one, texts_sum_to_one}
-use Rattle.poolreplay.specs.declared.outcome.Status.{Status}
-use Rattle.poolreplay.specs.declared.outcome.Status.TheVariants.{Done, BadWords, BadTrace, TooLong, ReadFault}
-use Rattle.poolreplay.specs.declared.outcome.Status.TheVariants.{StepsOut, WriteFault, NoMemory}
+use Rattle.program_edge.specs.declared.outcome.Status.{Status}
+use Rattle.program_edge.specs.declared.outcome.Status.TheVariants.{Done, BadWords, BadTrace, TooLong, ReadFault}
+use Rattle.program_edge.specs.declared.outcome.Status.TheVariants.{StepsOut, WriteFault, NoMemory}
 use Rattle.poolreplay.specs.Laws.{ReportsAreOne}
 use Rattle.poolreplay.specs.Plain.{are_plain_lines, is_plain}
-use Rattle.poolreplay.specs.Replay.{IsAnswered, IsOutOfTurns, IsRefused, IsReplayed, IsReply, IsReportOf, IsRunOf}
-use Rattle.poolreplay.specs.Replay.{IsSumReply, IsSummaryOf, IsSummed, IsUnsummed, SpellOne, is_listed}
+use Rattle.program_edge.specs.Readings.{SpellOne}
+use Rattle.program_edge.proofs.CallerLemmas.{not_both, one_refusal}
+use Rattle.poolreplay.specs.Replay.{IsAnswered, IsOutOfTurns, IsReplayed, IsReply, IsReportOf, IsRunOf}
+use Rattle.poolreplay.specs.Replay.{IsSumReply, IsSummaryOf, IsSummed, IsUnsummed, is_listed}
 use Rattle.poolreplay.specs.Summaries.{summary_text}
 use Rattle.poolreplay.proofs.ClearLemmas.{replays_are_clear}
-
--- no text both spells a trace and is refused
-pub not_both : (bytes : List ℕ) (line kind : ℕ) → SpellOne bytes → IsRefused bytes line kind → ⊥
-not_both bytes line kind spelled refused =
-    let same : AllRead spelled.0.lines.items _ _ ≡ FirstRefused line refused.0 =
-    traces_are_clear forms.All bytes _ _ spelled.1 refused.1 in
-    cc
-
--- and one line is refused, with one kind
-refused_line : {line other : ℕ} {refusal same : Refusal} → FirstRefused line refusal ≡ FirstRefused other same →
-    line ≡ other
-refused_line is = cc
-
-refused_for : {line other : ℕ} {refusal same : Refusal} → FirstRefused line refusal ≡ FirstRefused other same →
-    refusal ≡ same
-refused_for is = cc
-
-one_refusal : (bytes : List ℕ) (line kind other kind' : ℕ) → IsRefused bytes line kind → IsRefused bytes other kind' →
-    BadTrace line kind ≡ BadTrace other kind'
-one_refusal bytes line kind other kind' one two =
-    let same : FirstRefused line one.0 ≡ FirstRefused other two.0 = traces_are_clear forms.All bytes _ _ one.1 two.1 in
-    let kinds : kind ≡ kind' = one.2 ∙ ap (λ (r : Refusal). refusal_kind r) (refused_for same) ∙ sym two.2 in
-    ap (λ (l : ℕ). BadTrace l kind) (refused_line same) ∙ ap (λ (k : ℕ). BadTrace other k) kinds
 
 -- traces that are spelled alike are plain or not alike
 plain_alike : (one other : Trace) → AreSpelledAlike one other → is_plain one ≡ is_plain other
@@ -153,7 +129,7 @@ one_unsummed bytes line other out out' =
     (out_some other (Err (RunError.StepsOut other)) refl))
 
 -- the trace that a report tells of
-pub report_spelled : (moves : Bool) (bytes text : List ℕ) → IsReportOf moves bytes text → SpellOne bytes
+pub report_spelled : (moves : Bool) (bytes text : List ℕ) → IsReportOf moves bytes text → SpellOne forms.All bytes
 report_spelled moves bytes text (inl listed) = (listed.1.trace, listed.1.explained.spelled)
 report_spelled moves bytes text (inr run) = (run.trace, run.spelled)
 
@@ -163,18 +139,18 @@ pub answered_once : (moves : Bool) (bytes : List ℕ) (one other : Status) → I
 answered_once moves bytes Done Done h h' = refl
 answered_once moves bytes Done (StepsOut line) h h' = absurd (report_in_turns moves bytes h.0 line h.1 h')
 answered_once moves bytes Done (BadTrace line kind) h h' =
-    absurd (not_both bytes line kind (report_spelled moves bytes h.0 h.1) h')
+    absurd (not_both forms.All bytes line kind (report_spelled moves bytes h.0 h.1) h')
 answered_once moves bytes (StepsOut line) Done h h' = absurd (report_in_turns moves bytes h'.0 line h'.1 h)
 answered_once moves bytes (StepsOut line) (StepsOut other) h h' =
     ap (λ (l : ℕ). StepsOut l) (one_out moves bytes line other h h')
 answered_once moves bytes (StepsOut line) (BadTrace other kind) h h' =
-    absurd (not_both bytes other kind (h.trace, h.spelled) h')
+    absurd (not_both forms.All bytes other kind (h.trace, h.spelled) h')
 answered_once moves bytes (BadTrace line kind) Done h h' =
-    absurd (not_both bytes line kind (report_spelled moves bytes h'.0 h'.1) h)
+    absurd (not_both forms.All bytes line kind (report_spelled moves bytes h'.0 h'.1) h)
 answered_once moves bytes (BadTrace line kind) (StepsOut other) h h' =
-    absurd (not_both bytes line kind (h'.trace, h'.spelled) h)
+    absurd (not_both forms.All bytes line kind (h'.trace, h'.spelled) h)
 answered_once moves bytes (BadTrace line kind) (BadTrace other kind') h h' =
-    one_refusal bytes line kind other kind' h h'
+    one_refusal forms.All bytes line kind other kind' h h'
 answered_once moves bytes Done other h h' = absurd h'
 answered_once moves bytes (StepsOut line) other h h' = absurd h'
 answered_once moves bytes (BadTrace line kind) other h h' = absurd h'
@@ -183,16 +159,19 @@ answered_once moves bytes one other h h' = absurd h
 pub summed_once : (bytes : List ℕ) (one other : Status) → IsSummed bytes one → IsSummed bytes other → one ≡ other
 summed_once bytes Done Done h h' = refl
 summed_once bytes Done (StepsOut line) h h' = absurd (summary_in_turns bytes h.0 line h.1 h')
-summed_once bytes Done (BadTrace line kind) h h' = absurd (not_both bytes line kind (h.1.trace, h.1.spelled) h')
+summed_once bytes Done (BadTrace line kind) h h' =
+    absurd (not_both forms.All bytes line kind (h.1.trace, h.1.spelled) h')
 summed_once bytes (StepsOut line) Done h h' = absurd (summary_in_turns bytes h'.0 line h'.1 h)
 summed_once bytes (StepsOut line) (StepsOut other) h h' =
     ap (λ (l : ℕ). StepsOut l) (one_unsummed bytes line other h h')
 summed_once bytes (StepsOut line) (BadTrace other kind) h h' =
-    absurd (not_both bytes other kind (h.trace, h.spelled) h')
-summed_once bytes (BadTrace line kind) Done h h' = absurd (not_both bytes line kind (h'.1.trace, h'.1.spelled) h)
+    absurd (not_both forms.All bytes other kind (h.trace, h.spelled) h')
+summed_once bytes (BadTrace line kind) Done h h' =
+    absurd (not_both forms.All bytes line kind (h'.1.trace, h'.1.spelled) h)
 summed_once bytes (BadTrace line kind) (StepsOut other) h h' =
-    absurd (not_both bytes line kind (h'.trace, h'.spelled) h)
-summed_once bytes (BadTrace line kind) (BadTrace other kind') h h' = one_refusal bytes line kind other kind' h h'
+    absurd (not_both forms.All bytes line kind (h'.trace, h'.spelled) h)
+summed_once bytes (BadTrace line kind) (BadTrace other kind') h h' =
+    one_refusal forms.All bytes line kind other kind' h h'
 summed_once bytes Done other h h' = absurd h'
 summed_once bytes (StepsOut line) other h h' = absurd h'
 summed_once bytes (BadTrace line kind) other h h' = absurd h'

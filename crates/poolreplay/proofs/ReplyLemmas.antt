@@ -1,7 +1,6 @@
 -- Which texts are due.
-use Rattle.std.proofs.Common.{◌≡◌, ℕ, inl, inr, Bool, false, List, [], refl, sym, subst}
-use Rattle.std.specs.Prelude.{Vec, Result, Ok, Err, IfOk, OnErr}
-use Rattle.std.specs.Global.{Global}
+use Rattle.std.proofs.Common.{◌≡◌, ℕ, inl, inr, Bool, false, List, refl, sym, subst}
+use Rattle.std.specs.Prelude.{Ok, Err}
 use Rattle.report_text.specs.Reports.{ReportView, ended_text}
 use Rattle.trace_reader.specs.declared.acts.Forms.TheVariants as forms
 use Rattle.trace_reader.specs.declared.refusal.TraceError.{TraceError}
@@ -11,17 +10,12 @@ use Rattle.trace_reader.specs.Text.{ReadsTrace}
 use Rattle.trace_runs.specs.Runs.{Runs, Sums}
 use Rattle.trace_runs.specs.declared.runs.RunError.TheVariants as RunError
 use Rattle.trace_runs.specs.declared.ends.Summary.{Summary}
-use Rattle.poolreplay.specs.declared.outcome.Status.{Status}
-use Rattle.poolreplay.specs.declared.outcome.Status.TheVariants.{Done, BadTrace, StepsOut, NoMemory}
-use Rattle.poolreplay.specs.Replay.{IsReply, IsSumReply, Says, is_listed, refused_text, steps_out_text}
+use Rattle.program_edge.specs.declared.outcome.Status.{Status}
+use Rattle.program_edge.specs.declared.outcome.Status.TheVariants.{Done, BadTrace, StepsOut}
+use Rattle.program_edge.specs.Outcome.{Says}
+use Rattle.program_edge.specs.Texts.{refused_text, steps_out_text}
+use Rattle.poolreplay.specs.Replay.{IsReply, IsSumReply, is_listed}
 use Rattle.poolreplay.specs.Summaries.{summary_text}
-
--- a text that was made is said, or memory ran out
-pub said_is : {E : Type 0} (said : Result (Vec ℕ Global) E) (want : List ℕ) (wanted status : Status) (text : List ℕ)
-    → IfOk said (λ words. words.items ≡ want) → IfOk said (λ words. Says wanted words.items status text)
-    → OnErr said ((status ≡ NoMemory) × (text ≡ [])) → Says wanted want status text
-said_is (Ok words) want wanted status text is ok err = subst (λ (w : List ℕ). Says wanted w status text) is ok
-said_is (Err failed) want wanted status text is ok err = inr err
 
 -- by what it says, a reply is due
 reply_by : (moves : Bool) (bytes : List ℕ) (wanted : Status) (words : List ℕ) (status : Status) (text : List ℕ)

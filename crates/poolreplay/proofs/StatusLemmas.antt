@@ -7,13 +7,16 @@ use Rattle.replay_words.specs.declared.command.Command.{Command}
 use Rattle.replay_words.specs.declared.command.Command.TheVariants as command
 use Rattle.replay_words.proofs.CallerLemmas.{words_are_clear}
 use Rattle.trace_gen.specs.Generated.{generated}
-use Rattle.poolreplay.specs.declared.outcome.Status.{Status}
-use Rattle.poolreplay.specs.declared.outcome.Status.TheVariants.{Done, BadTrace, ReadFault}
-use Rattle.poolreplay.specs.declared.outcome.Status.TheVariants.{StepsOut}
-use Rattle.poolreplay.specs.Replay.{ComesBut, HasTrace, IsAnswered, IsComplete, IsDue, IsReadWanted, IsRunEnd}
-use Rattle.poolreplay.specs.Replay.{IsRunWhereSpelled, IsSummed, IsWanted, IsWantedBy, RunsBut, SpellOne}
-use Rattle.poolreplay.proofs.OneReply.{not_both}
-use Rattle.poolreplay.proofs.WantedLemmas.{MayCome, due_wanted, statuses_are_one}
+use Rattle.program_edge.specs.declared.outcome.Status.{Status}
+use Rattle.program_edge.specs.declared.outcome.Status.TheVariants.{Done, BadTrace, ReadFault}
+use Rattle.program_edge.specs.declared.outcome.Status.TheVariants.{StepsOut}
+use Rattle.program_edge.specs.Outcome.{ComesBut}
+use Rattle.program_edge.specs.Readings.{SpellOne}
+use Rattle.trace_reader.specs.declared.acts.Forms.TheVariants as forms
+use Rattle.poolreplay.specs.Replay.{HasTrace, IsAnswered, IsComplete, IsDue, IsReadWanted, IsRunEnd}
+use Rattle.poolreplay.specs.Replay.{IsRunWhereSpelled, IsSummed, IsWanted, IsWantedBy, RunsBut}
+use Rattle.program_edge.proofs.CallerLemmas.{MayCome, not_both}
+use Rattle.poolreplay.proofs.WantedLemmas.{due_wanted, statuses_are_one}
 
 -- the status that is due comes where another one is wanted only if it is that one
 comes_but : (words : List (List ℕ)) (bytes : List ℕ) (wanted status : Status) (source source' sink sink' : ℕ) →
@@ -34,17 +37,17 @@ comes words old new text status source source' sink sink' due rose bytes wanted 
     wants
 
 -- bytes that spell a trace are refused nowhere
-answered_end : (moves : Bool) (bytes : List ℕ) (status : Status) → SpellOne bytes → IsAnswered moves bytes status →
-    IsRunEnd status
+answered_end : (moves : Bool) (bytes : List ℕ) (status : Status) → SpellOne forms.All bytes →
+    IsAnswered moves bytes status → IsRunEnd status
 answered_end moves bytes Done spelled is = tt
 answered_end moves bytes (StepsOut line) spelled is = tt
-answered_end moves bytes (BadTrace line kind) spelled is = absurd (not_both bytes line kind spelled is)
+answered_end moves bytes (BadTrace line kind) spelled is = absurd (not_both forms.All bytes line kind spelled is)
 answered_end moves bytes other spelled is = absurd is
 
-summed_end : (bytes : List ℕ) (status : Status) → SpellOne bytes → IsSummed bytes status → IsRunEnd status
+summed_end : (bytes : List ℕ) (status : Status) → SpellOne forms.All bytes → IsSummed bytes status → IsRunEnd status
 summed_end bytes Done spelled is = tt
 summed_end bytes (StepsOut line) spelled is = tt
-summed_end bytes (BadTrace line kind) spelled is = absurd (not_both bytes line kind spelled is)
+summed_end bytes (BadTrace line kind) spelled is = absurd (not_both forms.All bytes line kind spelled is)
 summed_end bytes other spelled is = absurd is
 
 read_end : (moves : Bool) (bytes : List ℕ) (status : Status) → HasTrace (command.Replay moves) bytes →

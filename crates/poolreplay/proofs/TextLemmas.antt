@@ -5,13 +5,14 @@ use Rattle.replay_words.specs.declared.command.Command.{Command}
 use Rattle.replay_words.specs.declared.command.Command.TheVariants as command
 use Rattle.replay_words.proofs.CallerLemmas.{words_are_clear}
 use Rattle.trace_gen.specs.Generated.{generated}
-use Rattle.poolreplay.specs.declared.outcome.Status.{Status}
-use Rattle.poolreplay.specs.declared.outcome.Status.TheVariants.{Done, BadWords, BadTrace, TooLong, ReadFault}
-use Rattle.poolreplay.specs.declared.outcome.Status.TheVariants.{StepsOut, WriteFault, NoMemory}
+use Rattle.program_edge.specs.declared.outcome.Status.{Status}
+use Rattle.program_edge.specs.declared.outcome.Status.TheVariants.{Done, BadWords, BadTrace, TooLong, ReadFault}
+use Rattle.program_edge.specs.declared.outcome.Status.TheVariants.{StepsOut, WriteFault, NoMemory}
 use Rattle.poolreplay.specs.Laws.{TextsAreOne}
 use Rattle.poolreplay.specs.Replay.{IsCommanded, IsDue, IsDueFor, IsReadReply, IsReplayReply, IsWanted}
 use Rattle.poolreplay.proofs.OneReply.{reply_text, sum_text}
-use Rattle.poolreplay.proofs.WantedLemmas.{MayCome, due_wanted, read_reply, statuses_are_one}
+use Rattle.program_edge.proofs.CallerLemmas.{MayCome}
+use Rattle.poolreplay.proofs.WantedLemmas.{due_wanted, read_reply, statuses_are_one}
 
 -- a status that tells of the words and bytes is wanted
 wanted : (words : List (List ℕ)) (bytes : List ℕ) (status : Status) → MayCome (IsWanted words bytes status) status →

@@ -1,17 +1,16 @@
 -- Words and bytes want one status, and what is due is wanted.
-use Rattle.std.proofs.Common.{◌≡◌, ℕ, ◌≤◌, ◌⊎◌, inl, inr, Bool, List, ◌++◌, length, refl, sym, ◌∙◌, ap, subst}
-use Rattle.std.proofs.Common.{Some, None, arith}
+use Rattle.std.proofs.Common.{◌≡◌, ℕ, ◌≤◌, inl, inr, Bool, List, length, refl, sym, ◌∙◌, subst}
+use Rattle.std.proofs.Common.{Some, arith}
 use Rattle.std.specs.declared.option.Option.{Option}
-use Rattle.std.proofs.lemmas.List.{append-nil, length-append}
-use Rattle.std.specs.Io.KnownBytes.{Consumes, IsAtEnd}
 use Rattle.pool_types.specs.Limits.{most_trace_bytes}
 use Rattle.replay_words.specs.declared.command.Command.{Command}
 use Rattle.replay_words.specs.declared.command.Command.TheVariants as command
 use Rattle.replay_words.proofs.CallerLemmas.{words_are_clear}
 use Rattle.trace_gen.specs.Generated.{generated}
-use Rattle.poolreplay.specs.declared.outcome.Status.{Status}
-use Rattle.poolreplay.specs.declared.outcome.Status.TheVariants.{Done, BadWords, BadTrace, TooLong, ReadFault}
-use Rattle.poolreplay.specs.declared.outcome.Status.TheVariants.{StepsOut, WriteFault, NoMemory}
+use Rattle.program_edge.specs.declared.outcome.Status.{Status}
+use Rattle.program_edge.specs.declared.outcome.Status.TheVariants.{Done, BadWords, BadTrace, TooLong, ReadFault}
+use Rattle.program_edge.specs.declared.outcome.Status.TheVariants.{StepsOut, WriteFault, NoMemory}
+use Rattle.program_edge.proofs.CallerLemmas.{MayCome, all_taken, may_come, taken_few}
 use Rattle.poolreplay.specs.Laws.{StatusesAreOne}
 use Rattle.poolreplay.specs.Replay.{IsAnswered, IsCommanded, IsDue, IsDueFor, IsReadReply, IsReadWanted, IsReplayReply}
 use Rattle.poolreplay.specs.Replay.{IsReply, IsSumReply, IsSummed, IsWanted, IsWantedBy}
@@ -40,20 +39,6 @@ statuses_are_one words bytes one other (inr asked) (inr asked') =
     (subst (λ (c : Command). IsWantedBy c bytes other) (words_are_clear words asked'.0 asked.0 asked'.1 asked.1)
     asked'.2)
 
--- what was taken is no more than the source had
-taken_few : (bytes : List ℕ) (new : Option (List ℕ)) (taken : List ℕ) → Consumes (Some bytes) new taken →
-    length taken ≤ length bytes
-taken_few bytes None taken consumed = absurd consumed
-taken_few bytes (Some left) taken consumed =
-    omega (arith, ap (λ (t : List ℕ). length t) consumed, length-append taken left)
-
--- what was read whole is all that the source had
-all_taken : (bytes : List ℕ) (new : Option (List ℕ)) (taken : List ℕ) → Consumes (Some bytes) new taken → IsAtEnd new →
-    taken ≡ bytes
-all_taken bytes None taken consumed ended = absurd consumed
-all_taken bytes (Some left) taken consumed ended =
-    sym (consumed ∙ ap (λ (t : List ℕ). taken ++ t) ended ∙ append-nil taken)
-
 -- what is due for bytes that were read whole
 pub read_reply : (moves : Bool) (bytes : List ℕ) (new : Option (List ℕ)) (status : Status) (text : List ℕ) →
     IsReadReply moves (Some bytes) new status text →
@@ -63,10 +48,6 @@ read_reply moves bytes new status text due =
       subst (λ (b : List ℕ). length b ≤ most_trace_bytes) all due.read.few,
       subst (λ (b : List ℕ). IsReply moves b status text) all due.reply,
     )
-
--- a status is wanted, but for want of memory and for a read that failed
-abbrev pub MayCome : Type 0 → Status → Type 0
-MayCome Wanted status = Wanted ⊎ (status ≡ NoMemory) ⊎ (status ≡ ReadFault)
 
 reply_answered : (moves : Bool) (bytes : List ℕ) (status : Status) (text : List ℕ) → IsReply moves bytes status text →
     MayCome (IsAnswered moves bytes status) status
@@ -89,12 +70,6 @@ sum_answered bytes BadWords text due = absurd due
 sum_answered bytes TooLong text due = absurd due
 sum_answered bytes ReadFault text due = absurd due
 sum_answered bytes WriteFault text due = absurd due
-
--- by what it wants, it may come
-may_come : {Wanted Wanted' : Type 0} (status : Status) → (Wanted → Wanted') → MayCome Wanted status →
-    MayCome Wanted' status
-may_come status leads (inl wants) = inl (leads wants)
-may_come status leads (inr but) = inr but
 
 read_answered : (moves : Bool) (bytes : List ℕ) (new : Option (List ℕ)) (status : Status) (text : List ℕ) →
     IsReadReply moves (Some bytes) new status text → MayCome (IsReadWanted moves bytes status) status

@@ -1,8 +1,8 @@
 -- The laws of a replay: for one input there is one text, with one status.
 use Rattle.std.specs.Prelude.{◌≡◌, ◌≢◌, ℕ, Bool, List, Some}
 use Rattle.std.specs.declared.option.Option.{Option}
-use Rattle.poolreplay.specs.declared.outcome.Status.{Status}
-use Rattle.poolreplay.specs.declared.outcome.Status.TheVariants.{NoMemory, ReadFault}
+use Rattle.program_edge.specs.declared.outcome.Status.{Status}
+use Rattle.program_edge.specs.declared.outcome.Status.TheVariants.{NoMemory, ReadFault}
 use Rattle.poolreplay.specs.Replay.{IsDue, IsReportOf, IsWanted}
 
 -- the bytes settle the report, with moves or without them

@@ -1,7 +1,6 @@
 -- What a replay answers and writes.
-use Rattle.std.specs.Prelude.{◌≡◌, ℕ, ◌+◌, ◌<◌, ◌≤◌, ◌⊎◌, Bool, false, not, ◌&&◌, List, [], ◌++◌, codes, length, Some}
+use Rattle.std.specs.Prelude.{◌≡◌, ℕ, ◌+◌, ◌<◌, ◌≤◌, ◌⊎◌, Bool, false, not, ◌&&◌, List, [], codes, length, Some}
 use Rattle.std.specs.Prelude.{None, Ok, Err}
-use Rattle.std.specs.Fmt.{decimal}
 use Rattle.std.specs.declared.option.Option.{Option}
 use Rattle.std.specs.Io.KnownBytes.{Appends, Keeps}
 use Rattle.pool_types.specs.declared.values.Leak.{Leak}
@@ -9,7 +8,6 @@ use Rattle.pool_types.specs.Causes.{Rose}
 use Rattle.pool_types.specs.Limits.{most_trace_bytes}
 use Rattle.pool_types.specs.Transfers.{IsReadWhole, IsReadPast, IsWrittenPart}
 use Rattle.trace_reader.specs.declared.acts.Forms.TheVariants as forms
-use Rattle.trace_reader.specs.declared.refusal.TraceRefused.TheVariants.{Bad}
 use Rattle.trace_reader.specs.declared.trace.Trace.{Trace}
 use Rattle.trace_reader.specs.Text.{ReadsTrace}
 use Rattle.report_text.specs.Reports.{ReportView, ended_text}
@@ -21,11 +19,12 @@ use Rattle.trace_runs.specs.Runs.{Runs, Sums}
 use Rattle.trace_runs.specs.declared.runs.RunError.TheVariants as RunError
 use Rattle.trace_runs.specs.declared.ends.Summary.{Summary}
 use Rattle.machine.specs.Events.{Event}
-use Rattle.poolreplay.specs.declared.outcome.Output.{Output}
-use Rattle.poolreplay.specs.declared.outcome.Output.TheVariants as output
-use Rattle.poolreplay.specs.declared.outcome.Status.{Status}
-use Rattle.poolreplay.specs.declared.outcome.Status.TheVariants.{Done, BadWords, BadTrace, TooLong, ReadFault}
-use Rattle.poolreplay.specs.declared.outcome.Status.TheVariants.{StepsOut, WriteFault, NoMemory}
+use Rattle.program_edge.specs.Outcome.{ComesBut}
+use Rattle.program_edge.specs.Readings.{IsRefused, SpellOne}
+use Rattle.program_edge.specs.Texts.{refused_text, steps_out_text}
+use Rattle.program_edge.specs.declared.outcome.Status.{Status}
+use Rattle.program_edge.specs.declared.outcome.Status.TheVariants.{Done, BadWords, BadTrace, TooLong, ReadFault}
+use Rattle.program_edge.specs.declared.outcome.Status.TheVariants.{StepsOut, WriteFault, NoMemory}
 use Rattle.poolreplay.specs.Explained.{Explained}
 use Rattle.poolreplay.specs.Plain.{is_plain}
 use Rattle.poolreplay.specs.Settled.{Settled}
@@ -78,26 +77,10 @@ pub record IsUnsummed (bytes : List ℕ) (line : ℕ) : Type 0 where
   pub spelled : ReadsTrace forms.All bytes (Ok trace)
   pub sums : Sums trace (Err (RunError.StepsOut line))
 
--- the text of a refused line
-abbrev pub refused_text : ℕ → ℕ → List ℕ
-refused_text line kind = codes "bad trace line " ++ (decimal line ++ (codes " kind " ++ (decimal kind ++ codes "\n")))
-
--- the text of a line that is out of turns
-abbrev pub steps_out_text : ℕ → List ℕ
-steps_out_text line = codes "steps out line " ++ (decimal line ++ codes "\n")
-
--- the bytes spell no trace: this is the first line that is refused, and the first kind of what is wrong with it
-abbrev pub IsRefused : List ℕ → ℕ → ℕ → Type 0
-IsRefused bytes line kind = ReadsTrace forms.All bytes (Err (Bad (record { line = line; kind = kind })))
-
--- this status comes with this text, or memory ran out
-abbrev pub Says : Status → List ℕ → Status → List ℕ → Type 0
-Says wanted words status text = ((status ≡ wanted) × (text ≡ words)) ⊎ ((status ≡ NoMemory) × (text ≡ []))
-
 -- the text that is due with a status, for bytes that were read whole
 abbrev pub IsReply : Bool → List ℕ → Status → List ℕ → Type 0
 IsReply moves bytes Done text = IsReportOf moves bytes text
-IsReply moves bytes (BadTrace line kind) text = IsRefused bytes line kind × (text ≡ refused_text line kind)
+IsReply moves bytes (BadTrace line kind) text = IsRefused forms.All bytes line kind × (text ≡ refused_text line kind)
 IsReply moves bytes (StepsOut line) text = IsOutOfTurns moves bytes line × (text ≡ steps_out_text line)
 IsReply moves bytes NoMemory text = text ≡ []
 IsReply moves bytes BadWords text = ⊥
@@ -108,7 +91,7 @@ IsReply moves bytes WriteFault text = ⊥
 -- and for bytes that are to be summed
 abbrev pub IsSumReply : List ℕ → Status → List ℕ → Type 0
 IsSumReply bytes Done text = IsSummaryOf bytes text
-IsSumReply bytes (BadTrace line kind) text = IsRefused bytes line kind × (text ≡ refused_text line kind)
+IsSumReply bytes (BadTrace line kind) text = IsRefused forms.All bytes line kind × (text ≡ refused_text line kind)
 IsSumReply bytes (StepsOut line) text = IsUnsummed bytes line × (text ≡ steps_out_text line)
 IsSumReply bytes NoMemory text = text ≡ []
 IsSumReply bytes BadWords text = ⊥
@@ -157,35 +140,19 @@ IsDue words old new (StepsOut line) text = IsCommanded words old new (StepsOut l
 IsDue words old new TooLong text = IsCommanded words old new TooLong text
 IsDue words old new ReadFault text = IsCommanded words old new ReadFault text
 
--- the status that the process ends with
-abbrev pub status_number : Status → ℕ
-status_number Done = 0
-status_number BadWords = 2
-status_number (BadTrace line kind) = 3
-status_number TooLong = 4
-status_number ReadFault = 5
-status_number WriteFault = 6
-status_number (StepsOut line) = 7
-status_number NoMemory = 8
-
--- the text that is to be written
-abbrev pub output_text : Output → List ℕ
-output_text (output.Words text) = text.items
-output_text (output.Whole report) = ended_text report
-
 -- The status that bytes want that are to be reported: their run comes to a report, or a line of it made the most turns
 -- that a line makes, or the bytes spell no trace.
 abbrev pub IsAnswered : Bool → List ℕ → Status → Type 0
 IsAnswered moves bytes Done = (text : List ℕ) × IsReportOf moves bytes text
 IsAnswered moves bytes (StepsOut line) = IsOutOfTurns moves bytes line
-IsAnswered moves bytes (BadTrace line kind) = IsRefused bytes line kind
+IsAnswered moves bytes (BadTrace line kind) = IsRefused forms.All bytes line kind
 IsAnswered moves bytes other = ⊥
 
 -- and the one that bytes want that are to be summed
 abbrev pub IsSummed : List ℕ → Status → Type 0
 IsSummed bytes Done = (text : List ℕ) × IsSummaryOf bytes text
 IsSummed bytes (StepsOut line) = IsUnsummed bytes line
-IsSummed bytes (BadTrace line kind) = IsRefused bytes line kind
+IsSummed bytes (BadTrace line kind) = IsRefused forms.All bytes line kind
 IsSummed bytes other = ⊥
 
 -- the status that the source's bytes want
@@ -205,21 +172,10 @@ IsWanted words bytes status =
     (ReadsCommand words None × (status ≡ BadWords))
     ⊎ ((command : Command) × IsCommand words command × IsWantedBy command bytes status)
 
--- The status comes that is wanted, but for want of memory, and for a fault that is counted. The counts are those of the
--- source before and after, and those of the sink.
-abbrev pub ComesBut : Status → Status → ℕ → ℕ → ℕ → ℕ → Type 0
-ComesBut wanted status source source' sink sink' =
-    (status ≡ wanted) ⊎ (status ≡ NoMemory) ⊎ ((status ≡ ReadFault) × Rose source source')
-    ⊎ ((status ≡ WriteFault) × Rose sink sink')
-
--- the bytes spell a trace
-abbrev pub SpellOne : List ℕ → Type 0
-SpellOne bytes = (trace : Trace) × ReadsTrace forms.All bytes (Ok trace)
-
 -- a command has a trace to run: one that is read, no longer than it may be, or one that is generated
 abbrev pub HasTrace : Command → List ℕ → Type 0
-HasTrace (command.Replay moves) bytes = (length bytes ≤ most_trace_bytes) × SpellOne bytes
-HasTrace (command.Gen seed threads calls) bytes = SpellOne (generated seed threads calls)
+HasTrace (command.Replay moves) bytes = (length bytes ≤ most_trace_bytes) × SpellOne forms.All bytes
+HasTrace (command.Gen seed threads calls) bytes = SpellOne forms.All (generated seed threads calls)
 
 -- a trace was run: to its end, or to a line that is out of turns
 abbrev pub IsRunEnd : Status → Type 0

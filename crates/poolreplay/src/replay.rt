@@ -1,21 +1,17 @@
 //! The whole of a replay: from the words and the bytes that come in to the bytes that go out. This project's own.
-ghost use Rattle.std.specs.Prelude.{◌≡◌, ◌≢◌, ◌<◌, ◌⊎◌, ◌≤◌, None, length, map, string_bytes, OnOk, OnErr};
-ghost use Rattle.std.specs.Io.KnownBytes.{Appends, Keeps};
+ghost use Rattle.std.specs.Prelude.{◌≡◌, ◌≢◌, ◌<◌, ◌⊎◌, None, map, string_bytes};
 ghost use Rattle.pool_types.specs.Causes.{Rose};
-ghost use Rattle.pool_types.specs.Limits.{most_threads};
-ghost use Rattle.pool_types.specs.Transfers.{IsWrittenPart};
 ghost use Rattle.replay_words.specs.Commands.{ReadsCommand};
 ghost use Rattle.trace_gen.specs.Generated.{generated};
 ghost use Rattle.poolreplay.specs.Replay.{IsComplete, IsDue, IsFrontWritten, IsReplayReply, IsSumReply, IsWritten};
-ghost use Rattle.poolreplay.specs.Replay.{IsRunWhereSpelled, output_text};
-ghost use Rattle.poolreplay.specs.declared.outcome.Status.{Status};
+ghost use Rattle.poolreplay.specs.Replay.{IsRunWhereSpelled};
+ghost use Rattle.program_edge.specs.Outcome.{output_text};
+ghost use Rattle.program_edge.specs.declared.outcome.Status.{Status};
 
-use crate::outcome::{Output, Reply, Status, silent, spoken};
 use crate::replies::{reply_to, sum_up};
-use crate::texts::bad_words;
-use pool_types::{Failed, ReadError, Sink, Source, read_all, write_all};
+use pool_types::{ReadError, Sink, Source, read_all};
+use program_edge::{Reply, Status, bad_words, silent, spoken, write_output};
 use replay_words::{Command, read_command};
-use report_text::write_report;
 use std::alloc::{AllocError, Global};
 use trace_gen::generated;
 
@@ -65,20 +61,6 @@ fn due<S: Source>(alloc: Global, words: &[String], source: &mut S) -> Reply
         ) => reply_to_gen(alloc, seed, threads, calls),
         Ok(None) => spoken(alloc, Status::BadWords, bad_words(alloc)),
         Err(AllocError) => silent(alloc, Status::NoMemory),
-    }
-}
-
-/// Writes what is to be written.
-fn write_output<K: Sink>(sink: &mut K, output: &Output) -> Result<(), Failed>
-    ensures whole { OnOk result (Appends (K.taken sink.old) (K.taken sink.new) (output_text output.now)) }
-    ensures part { IsWrittenPart (K.taken sink.old) (K.taken sink.new) (output_text output.now) }
-    ensures fault { OnErr result (Rose (K.faults sink.old) (K.faults sink.new)) }
-    ensures some { OnErr result (0 < length (output_text output.now)) }
-    ensures kept { OnOk result (K.faults sink.new ≡ K.faults sink.old) }
-{
-    match output {
-        Output::Words(text) => write_all(sink, text.as_slice()),
-        Output::Whole(report) => write_report(sink, report),
     }
 }
 

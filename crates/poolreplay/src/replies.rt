@@ -2,17 +2,18 @@
 ghost use Rattle.std.specs.Prelude.{◌≡◌, Ok, Err, true, false};
 ghost use Rattle.trace_reader.specs.Text.{ReadsTrace};
 ghost use Rattle.poolreplay.specs.Plain.{is_plain};
-ghost use Rattle.poolreplay.specs.Replay.{IsReply, IsSumReply, Says, is_listed, output_text, refused_text};
-ghost use Rattle.poolreplay.specs.Replay.{steps_out_text};
+ghost use Rattle.poolreplay.specs.Replay.{IsReply, IsSumReply, is_listed};
+ghost use Rattle.program_edge.specs.Outcome.{Says, output_text};
+ghost use Rattle.program_edge.specs.Texts.{steps_out_text};
 ghost use Rattle.poolreplay.specs.Summaries.{summary_text};
-ghost use Rattle.poolreplay.specs.declared.outcome.Status.{Status};
+ghost use Rattle.program_edge.specs.declared.outcome.Status.{Status};
 
-use crate::outcome::{Output, Reply, Status, silent, spoken};
 use crate::plain::is_plain;
 use crate::run::run_trace;
-use crate::texts::{refused_text, steps_out_text, summary_text};
+use crate::texts::summary_text;
+use program_edge::{Output, Reply, Status, refused, silent, spoken, steps_out_text};
 use std::alloc::Global;
-use trace_reader::{Forms, Trace, TraceError, TraceRefused, read_trace};
+use trace_reader::{Forms, Trace, TraceRefused, read_trace};
 use trace_runs::{RunError, Summary, run_lines, sum_lines};
 
 /// Whether whole calls over lists serve the trace.
@@ -76,25 +77,13 @@ fn reply_to_trace(alloc: Global, moves: bool, bytes: &[u8], trace: &Trace) -> Re
     }
 }
 
-/// The refusal of a line.
-fn reply_to_refused(alloc: Global, error: TraceError) -> Reply
-    ensures { Says (Status.BadTrace error.line error.kind) (refused_text error.line error.kind) result.status
-        (output_text result.output) }
-{
-    let status = Status::BadTrace {
-        line: error.line,
-        kind: error.kind,
-    };
-    spoken(alloc, status, refused_text(alloc, error))
-}
-
 /// The status and the text that are due for bytes that were read.
 pub fn reply_to(alloc: Global, moves: bool, bytes: &[u8]) -> Reply
     ensures { IsReply moves bytes.now result.status (output_text result.output) }
 {
     match read_trace(alloc, bytes, Forms::All) {
         Ok(trace) => reply_to_trace(alloc, moves, bytes, &trace),
-        Err(TraceRefused::Bad(error)) => reply_to_refused(alloc, error),
+        Err(TraceRefused::Bad(error)) => refused(alloc, error),
         Err(TraceRefused::NoMemory) => silent(alloc, Status::NoMemory),
     }
 }
@@ -124,7 +113,7 @@ pub fn sum_up(alloc: Global, bytes: &[u8]) -> Reply
 {
     match read_trace(alloc, bytes, Forms::All) {
         Ok(trace) => sum_trace(alloc, bytes, &trace),
-        Err(TraceRefused::Bad(error)) => reply_to_refused(alloc, error),
+        Err(TraceRefused::Bad(error)) => refused(alloc, error),
         Err(TraceRefused::NoMemory) => silent(alloc, Status::NoMemory),
     }
 }

@@ -4,9 +4,9 @@ ghost use Rattle.std.specs.Prelude.{◌≤◌};
 
 mod frees;
 
-use crate::outcome::Status;
 use crate::replay::replay;
 use pool_types::{MemorySink, MemorySource};
+use program_edge::Status;
 use std::alloc::{AllocError, Global};
 use std::io::{self, Write};
 use std::process::Abort;

@@ -152,7 +152,10 @@ fn by_kind<'a>(line: &[u8], words: &[&'a [u8]], first: &str, kind: u8) -> Reason
         9 => of_line(too_many(first)),
         10 => of_line("a line has at most 1024 bytes before its newline"),
         11 => of_line("the last line has no newline"),
-        _ => of_line("this form is not served"),
+        _ => Reason {
+            word: word_at(words, 0),
+            text: "threads run whole calls, and no line of this form; `poolreplay replay` does",
+        },
     }
 }
 

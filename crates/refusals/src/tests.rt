@@ -49,6 +49,12 @@ fn each_kind_is_told(rt: HostRuntime) -> Result<(), Fail> {
             "line 1: `x`: no earlier line binds this name",
         ),
         (
+            "reset P0\n",
+            1,
+            12,
+            "line 1: `reset`: threads run whole calls, and no line of this form; `poolreplay replay` does",
+        ),
+        (
             "A P0 y = realloc x 5\n",
             1,
             5,

@@ -1,8 +1,8 @@
 //! The rows of frees, and of questions of places.
 
 use super::{mallocs, run, sink_of, source_of};
-use crate::outcome::Status;
 use pool_types::MemorySource;
+use program_edge::Status;
 use std::alloc::Global;
 use std::io::{self, Write};
 use std::process::Abort;

@@ -1,4 +1,4 @@
-use Rattle.poolreplay.proofs.ReplyLemmas.{said_is}
+use Rattle.program_edge.proofs.CallerLemmas.{said_is}
 use Rattle.poolreplay.proofs.replies.reply_to_summary.Goals as goal
 
 pub returns : goal.returns

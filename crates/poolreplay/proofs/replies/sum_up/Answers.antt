@@ -10,4 +10,4 @@ pub returns-in-Err-Bad : goal.returns-in-Err-Bad
 returns-in-Err-Bad c =
     refused_sum c.args.bytes.now c.in-Err-Bad.error _ _
     (subst (λ (refusal : TraceRefused). ReadsTrace forms.All c.args.bytes.now (Err refusal)) c.in-Err-Bad.field-0-is c.in-Err-Bad.ensures)
-    c.reply_to_refused.ensures
+    c.refused.ensures

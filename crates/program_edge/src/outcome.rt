@@ -1,13 +1,16 @@
-//! How a replay ends, and what is written then. This project's own.
+//! How a program ends, and what is due then. This project's own.
 ghost use Rattle.std.specs.Prelude.{◌≡◌, [], IfOk, OnErr};
-ghost use Rattle.poolreplay.specs.Replay.{Says, output_text, status_number};
-ghost use Rattle.poolreplay.specs.declared.outcome.Status.{Status};
+ghost use Rattle.program_edge.specs.Outcome.{Says, output_text, status_number};
+ghost use Rattle.program_edge.specs.Texts.{refused_text};
+ghost use Rattle.program_edge.specs.declared.outcome.Status.{Status};
 
+use crate::texts::refused_text;
 use report_text::Report;
 use std::alloc::Global;
 use std::io;
+use trace_reader::TraceError;
 
-/// How a replay ended.
+/// How a program ended.
 #[derive(Clone, Copy, Debug, PartialEq, Eq)]
 pub enum Status {
     /// The trace was run, and its report or summary is written.
@@ -22,7 +25,7 @@ pub enum Status {
     ReadFault,
     /// A write failed; the front of what was to be written is written.
     WriteFault,
-    /// The line of this number made the most turns that a line makes, and none ended it.
+    /// The line of this number made the most turns that a line of a replay makes, and none ended it.
     StepsOut { line: u32 },
     /// Memory ran out; nothing is written.
     NoMemory,
@@ -83,4 +86,16 @@ pub fn spoken(alloc: Global, status: Status, text: io::Result<Vec<u8>>) -> Reply
         },
         Err(_) => silent(alloc, Status::NoMemory),
     }
+}
+
+/// The refusal of a line, or that memory ran out.
+pub fn refused(alloc: Global, error: TraceError) -> Reply
+    ensures { Says (Status.BadTrace error.line error.kind) (refused_text error.line error.kind) result.status
+        (output_text result.output) }
+{
+    let status = Status::BadTrace {
+        line: error.line,
+        kind: error.kind,
+    };
+    spoken(alloc, status, refused_text(alloc, error))
 }

@@ -1,0 +1,3 @@
+mod WantedLemmas
+pub mod StatusLemmas
+pub mod WordLemmas
