@@ -1,0 +1,15 @@
+pub mod Below
+pub mod Words
+pub mod Lifts
+pub mod Guarded
+pub mod Offices
+pub mod Shelved
+pub mod Told
+pub mod Posted
+pub mod Used
+pub mod Orphaned
+pub mod Ended
+pub mod Slabs
+pub mod Moved
+pub mod Examples
+pub mod CallerLemmas
