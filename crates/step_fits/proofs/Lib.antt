@@ -1,0 +1,14 @@
+pub mod Rolls
+pub mod Heaps
+pub mod Framed
+pub mod Resets
+pub mod Small
+pub mod Slabs
+pub mod Large
+pub mod Backend
+pub mod Wanted
+pub mod Objects
+pub mod Turns
+pub mod Begun
+pub mod Follows
+pub mod CallerLemmas

@@ -1,0 +1,9 @@
+pub mod Frames
+pub mod Asked
+pub mod Small
+pub mod Large
+pub mod Backend
+pub mod Mail
+pub mod Resets
+pub mod Positions
+pub mod Laws
