@@ -1,0 +1,17 @@
+pub mod Lists
+pub mod Counts
+pub mod Numbers
+pub mod Lands
+pub mod Resets
+pub mod Small
+pub mod Served
+pub mod Large
+pub mod Puts
+pub mod Scans
+pub mod Cuts
+pub mod Backend
+pub mod Offices
+pub mod ResetTurns
+pub mod Turns
+pub mod Begun
+pub mod CallerLemmas

@@ -1,0 +1,4 @@
+pub mod Hands
+pub mod Changes
+pub mod Fits
+pub mod Laws
