@@ -1,0 +1,13 @@
+pub mod Started
+pub mod StartedResets
+pub mod StartedSmall
+pub mod StartedLarge
+pub mod StartedBackend
+pub mod Begun
+pub mod Turns
+pub mod CacheTurns
+pub mod Kept
+pub mod Rooms
+pub mod Taken
+pub mod ShelfTurns
+pub mod CallerLemmas

@@ -1,0 +1,5 @@
+pub mod Cache
+pub mod Released
+pub mod Hands
+pub mod Shelves
+pub mod Laws
