@@ -1,0 +1,14 @@
+pub mod Started
+pub mod StartedResets
+pub mod StartedSmall
+pub mod StartedLarge
+pub mod StartedBackend
+pub mod Moves
+pub mod OrphanTurns
+pub mod Turns
+pub mod Heaps
+pub mod Rows
+pub mod Ties
+pub mod Begun
+pub mod Steps
+pub mod CallerLemmas
