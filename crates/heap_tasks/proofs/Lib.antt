@@ -1,0 +1,16 @@
+pub mod Kept
+pub mod KeptResets
+pub mod KeptSmall
+pub mod KeptLarge
+pub mod KeptBackend
+pub mod HeapTurns
+pub mod Staged
+pub mod StagedResets
+pub mod StagedSmall
+pub mod StagedLarge
+pub mod StagedBackend
+pub mod NoteTurns
+pub mod HeapBegun
+pub mod NoteBegun
+pub mod NoteRows
+pub mod CallerLemmas

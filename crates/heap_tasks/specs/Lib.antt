@@ -1,0 +1,4 @@
+pub mod Heaps
+pub mod Stages
+pub mod Notes
+pub mod Laws
