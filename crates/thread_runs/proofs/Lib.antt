@@ -2,6 +2,7 @@ pub mod SlotLemmas
 pub mod RangeLemmas
 pub mod MakeLemmas
 pub mod PathLemmas
+pub mod PayLemmas
 pub mod GatherLemmas
 pub mod QuietLemmas
 pub mod ServeLemmas

@@ -33,7 +33,7 @@ use Rattle.trace_reader.specs.declared.acts.TraceLine.{TraceLine}
 use Rattle.trace_reader.specs.declared.trace.Trace.{Trace}
 use Rattle.trace_reader.proofs.CallerLemmas.{lines_are_numbered, names_are_bound_in_turn}
 use Rattle.thread_runs.specs.Gathering.{AreColumns, AreQuiet, HaveRows, IsColumnAt, IsQuietAt, IsSeatOf, first_of}
-use Rattle.thread_runs.specs.Gathering.{firsts_of, heap_of_column, quiet_plan, row_of, said_by}
+use Rattle.thread_runs.specs.Gathering.{IsPath, firsts_of, heap_of_column, quiet_plan, row_of, said_by}
 use Rattle.thread_runs.specs.Making.{stand_plan}
 use Rattle.thread_runs.specs.Runs.{IsServed, IsWord}
 use Rattle.thread_runs.specs.Telling.{AreSaid}
@@ -41,6 +41,7 @@ use Rattle.thread_runs.specs.Traces.{AreMadeAs, IsRead, flat, threads_in}
 use Rattle.thread_runs.proofs.GatherLemmas.{heap_none}
 use Rattle.thread_runs.proofs.MakeLemmas.{seats_at}
 use Rattle.thread_runs.proofs.PathLemmas.{tells_count, tells_from}
+use Rattle.thread_runs.proofs.PayLemmas.{path_earned}
 use Rattle.thread_runs.proofs.QuietLemmas.{whole_columns}
 use Rattle.thread_runs.proofs.SlotLemmas.{same_length}
 
@@ -165,20 +166,26 @@ module _ {R : Type 0} (out : R → List Region) (faults : R → ℕ) (got : R �
           };
         };
         words = word_of words;
-        paths = λ thread low. record {
-          heaps = row_of columns thread;
-          tells = tells_from (IsWord (word_of words)) thread (first_heaps tables thread) (firsts_of quiet thread)
-              (λ pool. first_same thread (slice_get tables pool) (slice_get columns pool) (slice_get quiet pool)
-              (are pool))
-              (tells_so (IsKnown known) (IsWord (word_of words)) (named_so words known so) thread
-              (first_heaps tables thread) (rows.tells thread (omega arith)));
-          seats = λ pool. seat_of thread (slice_get tables pool) (slice_get columns pool) (slice_get quiet pool)
-              (λ s at. let n = seats_at trace tables pool s as_made (slice_get_within tables pool (Some s) at) at in
-              omega arith)
-              (has pool) (are pool);
-        };
+        paths = path;
+        earned = λ thread low. path_earned (IsWord (word_of words)) quiet trace.lines.items thread
+            (said_by all thread) (path thread low);
       }
     where
+      path : (thread : ℕ) → thread < threads_in trace
+          → IsPath (IsWord (word_of words)) quiet trace.lines.items thread (said_by all thread)
+      path thread low = record {
+        heaps = row_of columns thread;
+        tells = tells_from (IsWord (word_of words)) thread (first_heaps tables thread) (firsts_of quiet thread)
+            (λ pool. first_same thread (slice_get tables pool) (slice_get columns pool) (slice_get quiet pool)
+            (are pool))
+            (tells_so (IsKnown known) (IsWord (word_of words)) (named_so words known so) thread
+            (first_heaps tables thread) (rows.tells thread (let n = count_is in omega arith)));
+        seats = λ pool. seat_of thread (slice_get tables pool) (slice_get columns pool) (slice_get quiet pool)
+            (λ s at. let n = seats_at trace tables pool s as_made (slice_get_within tables pool (Some s) at) at in
+            omega arith)
+            (has pool) (are pool);
+      }
+
       IsPair : Option (Option Stand) → Option (Option (Quiet R)) → Type 0
       IsPair slot one = (column : Option (Column R raw)) × IsQuietAt slot column one
 

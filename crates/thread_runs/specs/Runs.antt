@@ -7,6 +7,7 @@ use Rattle.trace_reader.specs.declared.trace.Trace.{Trace}
 use Rattle.trace_runs.specs.Runs.{empty_report}
 use Rattle.thread_runs.specs.Traces.{AreMadeAs, threads_in}
 use Rattle.thread_runs.specs.Gathering.{IsPath, quiet_plan}
+use Rattle.thread_runs.specs.Paying.{HaveEarned}
 use Rattle.thread_runs.specs.Telling.{Reports}
 use Rattle.thread_runs.specs.Ending.{ends_from}
 
@@ -16,12 +17,15 @@ IsWord words name word = words name ≡ word
 
 module _ {R : Type 0} (trace : Trace) where
   -- The threads have run their lines: each pool was made as its making was judged, each name has one word for all
-  -- threads, and what a thread's calls came to is what its heaps answered.
+  -- threads, what a thread's calls came to is what its heaps answered, and what these have granted and freed is what
+  -- those calls say.
   pub record IsServed (said : ℕ → List Said) (pools : List (Option (Quiet R))) : Type 0 where
     pub made : AreMadeAs quiet_plan trace pools
     pub words : ℕ → ℕ
     pub paths : (thread : ℕ) → thread < threads_in trace →
         IsPath (IsWord words) pools trace.lines.items thread (said thread)
+    pub earned : (thread : ℕ) → thread < threads_in trace →
+        HaveEarned (IsWord words) trace.lines.items thread (said thread) pools
 
   -- the report of what the lines came to, in their order, and then of what the pools have
   pub record IsTold (said : ℕ → List Said) (pools : List (Option (Quiet R))) (report : ReportView) : Type 0 where
