@@ -127,3 +127,28 @@ fn a_lone_heap_never_waits(rt: HostRuntime) -> Result<(), Fail> {
     assert!(rt; matches!(answer, Answer::Exited));
     Ok(())
 }
+
+/// A call begins once: until it is answered, each other begin is refused and changes nothing.
+#[test]
+fn a_call_is_begun_once(rt: HostRuntime) -> Result<(), Fail> {
+    let alloc = rt.alloc();
+    let raw = ScriptedRaw::of(Vec::new(alloc), Vec::new(alloc));
+    let Some(mut bench) = Bench::make(alloc, raw) else {
+        return Err(Fail::from("a pool is refused"));
+    };
+    let begun = bench.begin(Request::Malloc { size: 8 });
+    assert!(rt; begun.is_ok());
+    let refused = bench.begin(Request::Exit);
+    assert!(rt; matches!(refused, Err(InCall { seat: 1 })));
+    let mut got = false;
+    for _ in 0..MOST_TURNS {
+        if let Turn::Done(answer) = bench.turn() {
+            got = matches!(answer, Answer::Got { .. });
+            break;
+        }
+    }
+    assert!(rt; got);
+    let answer = stepped(&mut bench, Request::Exit)?;
+    assert!(rt; matches!(answer, Answer::Exited));
+    Ok(())
+}
