@@ -1,6 +1,7 @@
 -- The positions at which nothing of guards, of bins and of the queue is under way, and turns after which that is so.
-use Rattle.std.proofs.Common.{◌≡◌, Bool, true, false, cond, refl, subst, sym}
+use Rattle.std.proofs.Common.{◌≡◌, ◌<◌, Bool, true, false, cond, refl, subst, sym, ℕ, arith}
 use Rattle.std.specs.Bool.{⊤}
+use Rattle.pool_types.specs.Geometry.{bin_count}
 use Rattle.pool_types.specs.declared.values.Turn.{Turn}
 use Rattle.backend_bins.specs.declared.bin.BinAt.{BinAt}
 use Rattle.backend_bins.specs.declared.bin.BinCall.{BinCall}
@@ -10,12 +11,14 @@ use Rattle.backend_bins.specs.declared.cut.CutAt.{CutAt}
 use Rattle.backend_bins.specs.declared.cut.CutCall.{CutCall}
 use Rattle.backend_bins.specs.declared.scan.ScanAt.{ScanAt}
 use Rattle.backend_bins.specs.declared.scan.ScanStep.{ScanStep}
+use Rattle.backend_bins.specs.Blocks.{bin_of}
 use Rattle.backend_bins.specs.Cut.{back_call, back_of, front_call, front_of}
 use Rattle.coalescer.specs.declared.drain.DrainAt.{DrainAt}
 use Rattle.coalescer.specs.declared.drain.DrainCall.{DrainCall}
 use Rattle.coalescer.specs.declared.put.PutAt.{PutAt}
 use Rattle.coalescer.specs.declared.put.PutCall.{PutCall}
 use Rattle.coalescer.specs.declared.put.PutStep.{PutStep}
+use Rattle.region_steps.specs.declared.office.OfficeAt.{OfficeAt}
 use Rattle.reset_steps.specs.declared.unite.UniteAt.{UniteAt}
 use Rattle.step_local.specs.declared.frames.At.{At}
 use Rattle.step_local.specs.declared.frames.Local.{Local}
@@ -40,14 +43,19 @@ abbrev pub BinBare : BinAt → Type 0
 BinBare BinAt.Lock = ⊤
 BinBare _ = ⊥
 
-abbrev pub ScanBare : ScanStep → Type 0
-ScanBare ScanStep.Peek = ⊤
-ScanBare _ = ⊥
+abbrev pub ScanBare : ScanAt → ScanStep → Type 0
+ScanBare s ScanStep.Peek = s.bin < bin_count
+ScanBare s _ = ⊥
+
+pub bin_low : (n : ℕ) → bin_of n < bin_count
+bin_low n = omega arith
 
 abbrev pub CutBare : CutAt → Type 0
 CutBare (CutAt.Front at) = BinBare at
 CutBare (CutAt.Back at) = BinBare at
-CutBare _ = ⊤
+CutBare CutAt.FrontLeft = ⊤
+CutBare CutAt.BackLeft = ⊤
+CutBare _ = ⊥
 
 abbrev pub DrainBare : DrainAt → Type 0
 DrainBare DrainAt.Swap = ⊤
@@ -57,10 +65,14 @@ abbrev pub PutBare : PutStep → Type 0
 PutBare PutStep.Size = ⊤
 PutBare _ = ⊥
 
-abbrev pub OfficeBare : OfficeFor → Type 0
-OfficeBare OfficeFor.Ask = ⊤
-OfficeBare (OfficeFor.Put first) = ⊤
-OfficeBare (OfficeFor.Drain first rest) = ⊥
+abbrev pub AskBare : OfficeAt → Type 0
+AskBare OfficeAt.Lock = ⊤
+AskBare _ = ⊥
+
+abbrev pub OfficeBare : OfficeFor → OfficeAt → Type 0
+OfficeBare OfficeFor.Ask at = AskBare at
+OfficeBare (OfficeFor.Put first) at = ⊥
+OfficeBare (OfficeFor.Drain first rest) at = ⊥
 
 abbrev pub UniteBare : UniteAt → Type 0
 UniteBare (UniteAt.Size first) = ⊤
@@ -72,12 +84,12 @@ ResetBare (ResetAt.Bin at) = BinBare at
 ResetBare _ = ⊤
 
 abbrev pub BareAt : At → Type 0
-BareAt (At.Scan at) = ScanBare at.step
+BareAt (At.Scan at) = ScanBare at at.step
 BareAt (At.Cut at) = CutBare at
 BareAt (At.Whole at) = BinBare at
 BareAt (At.Drain at) = DrainBare at
 BareAt (At.Put at) = PutBare at.step
-BareAt (At.Office job at) = OfficeBare job
+BareAt (At.Office job at) = OfficeBare job at
 BareAt (At.Reset at) = ResetBare at
 BareAt _ = ⊤
 
@@ -96,9 +108,9 @@ bin_no_guard : (b : Block) (at : BinAt) → BinBare at → bin_guard b at ≡ gu
 bin_no_guard b BinAt.Lock bare = refl
 bin_no_guard b _ bare = absurd bare
 
-scan_no_guard : (step : ScanStep) → ScanBare step → scan_guard step ≡ guards.Task.Away
-scan_no_guard ScanStep.Peek bare = refl
-scan_no_guard _ bare = absurd bare
+scan_no_guard : (s : ScanAt) (step : ScanStep) → ScanBare s step → scan_guard step ≡ guards.Task.Away
+scan_no_guard s ScanStep.Peek bare = refl
+scan_no_guard s _ bare = absurd bare
 
 cut_no_guard : (c : CutCall) (at : CutAt) → CutBare at → cut_guard c at ≡ guards.Task.Away
 cut_no_guard c (CutAt.Front at) bare = bin_no_guard (front_of c) at bare
@@ -120,7 +132,7 @@ reset_no_guard l (ResetAt.Bin at) bare = bin_no_guard l.call.block at bare
 reset_no_guard l _ bare = refl
 
 no_guard : (l : Local) (at : At) → BareAt at → guard_task_at l at ≡ guards.Task.Away
-no_guard l (At.Scan at) bare = scan_no_guard at.step bare
+no_guard l (At.Scan at) bare = scan_no_guard at at.step bare
 no_guard l (At.Cut at) bare = cut_no_guard (cut_call l) at bare
 no_guard l (At.Whole at) bare = bin_no_guard l.ask.block at bare
 no_guard l (At.Drain at) bare = drain_no_guard at bare
@@ -133,7 +145,7 @@ bin_no_bin : (c : BinCall) (at : BinAt) → c.job ≡ BinJob.Insert → BinBare 
 bin_no_bin c BinAt.Lock job bare = rw job refl
 bin_no_bin c _ job bare = absurd bare
 
-scan_no_bin : (s : ScanAt) (step : ScanStep) → ScanBare step → scan_task s step ≡ bins.Task.Away
+scan_no_bin : (s : ScanAt) (step : ScanStep) → ScanBare s step → scan_task s step ≡ bins.Task.Away
 scan_no_bin s ScanStep.Peek bare = refl
 scan_no_bin s _ bare = absurd bare
 
@@ -174,15 +186,15 @@ put_no_queue : (p : PutAt) (step : PutStep) → PutBare step → put_queue p ste
 put_no_queue p PutStep.Size bare = refl
 put_no_queue p _ bare = absurd bare
 
-office_no_queue : (job : OfficeFor) → OfficeBare job → office_queue job ≡ queue.Task.Away
-office_no_queue OfficeFor.Ask bare = refl
-office_no_queue (OfficeFor.Put first) bare = refl
-office_no_queue (OfficeFor.Drain first rest) bare = absurd bare
+office_no_queue : (job : OfficeFor) (at : OfficeAt) → OfficeBare job at → office_queue job ≡ queue.Task.Away
+office_no_queue OfficeFor.Ask at bare = refl
+office_no_queue (OfficeFor.Put first) at bare = absurd bare
+office_no_queue (OfficeFor.Drain first rest) at bare = absurd bare
 
 no_queue : (l : Local) (at : At) → BareAt at → queue_task_at l at ≡ queue.Task.Away
 no_queue l (At.Drain at) bare = drain_no_queue at bare
 no_queue l (At.Put at) bare = put_no_queue at at.step bare
-no_queue l (At.Office job at) bare = office_no_queue job bare
+no_queue l (At.Office job at) bare = office_no_queue job at bare
 no_queue l _ bare = refl
 
 pub bare_no_task : (l : Local) → Bare l → HasNoTask l
@@ -197,8 +209,8 @@ bin_fits : (at : BinAt) → BinBare at → PutsIn at
 bin_fits BinAt.Lock bare = tt
 bin_fits _ bare = absurd bare
 
-scan_fits : (s : ScanAt) (step : ScanStep) → ScanBare step → ScanFits s step
-scan_fits s ScanStep.Peek bare = tt
+scan_fits : (s : ScanAt) (step : ScanStep) → ScanBare s step → ScanFits s step
+scan_fits s ScanStep.Peek bare = bare
 scan_fits s _ bare = absurd bare
 
 cut_fits : (at : CutAt) → CutBare at → CutFits at

@@ -33,6 +33,7 @@ use Rattle.large_cache.specs.declared.sweep.SweepNext.{SweepNext}
 use Rattle.large_cache.specs.declared.undo.UndoAt.{UndoAt}
 use Rattle.large_cache.specs.declared.undo.UndoNext.{UndoNext}
 use Rattle.step_local.specs.Large.{get_as, granules_of_served, keep_as, swept_as, undo_as}
+use Rattle.backend_tasks.proofs.Bare.{bin_low}
 use Rattle.backend_tasks.proofs.BareSmall.{IsBare, bare-getting_small, either}
 use Rattle.word_codes.specs.RegionWords.{has_granule, region_of}
 
@@ -54,7 +55,7 @@ bare-decided l size alignment base = either (eqb size 0) _ _ tt
     (either (stays l size alignment base) _ _ tt (bare-getting_or_null l (served_as size alignment)))
 
 pub bare-got_block : (l : Local) → IsBare (got_block l)
-bare-got_block l = either l.call.missed _ _ tt tt
+bare-got_block l = either l.call.missed _ _ (bin_low (granules_of_served l.call.served)) tt
 
 pub bare-cached_at : (l : Local) (stage : Stage) → IsBare (cached_at l stage)
 bare-cached_at l Stage.Getting = bare-got_block l

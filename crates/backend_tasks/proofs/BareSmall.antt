@@ -14,6 +14,7 @@ use Rattle.orphans.specs.declared.adopting.AdoptAt.{AdoptAt}
 use Rattle.orphans.specs.declared.adopting.AdoptNext.{AdoptNext}
 use Rattle.orphans.specs.declared.leaving.LeaveAt.{LeaveAt}
 use Rattle.orphans.specs.declared.leaving.LeaveNext.{LeaveNext}
+use Rattle.pool_types.specs.Geometry.{slab_granules}
 use Rattle.pool_types.specs.Sums.{capped}
 use Rattle.pool_types.specs.declared.values.Found.{Found}
 use Rattle.step_local.specs.Answers.{got, got_after, lost_at, lost_end, object_got, replaces}
@@ -30,6 +31,7 @@ use Rattle.step_local.specs.declared.frames.Local.{Local}
 use Rattle.step_local.specs.declared.frames.Object.{Object}
 use Rattle.step_local.specs.declared.frames.Stage.{Stage}
 use Rattle.step_local.specs.declared.frames.Tried.{Tried}
+use Rattle.backend_tasks.proofs.Bare.{bin_low}
 pub use Rattle.backend_tasks.proofs.Bare.{IsBare, either}
 use Rattle.backend_tasks.proofs.BareResets.{bare-orphan_adopted, bare-reset_on}
 
@@ -72,7 +74,7 @@ bare-leave_learn_of l slab at f = bare-left_as l slab (leave_learn at f)
 
 pub bare-cached_or_asked : (l : Local) (one : Option ℕ) → IsBare (cached_or_asked l one)
 bare-cached_or_asked l (Some slab) = tt
-bare-cached_or_asked l None = tt
+bare-cached_or_asked l None = bin_low slab_granules
 
 pub bare-looking_on : (l : Local) (class : ℕ) (tried : Tried) → IsBare (looking_on l class tried)
 bare-looking_on l class Tried.Nothing = tt

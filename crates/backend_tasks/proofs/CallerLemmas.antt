@@ -7,3 +7,6 @@ pub use Rattle.backend_tasks.proofs.QueueRows.{rows_leave_queue_tasks}
 pub use Rattle.backend_tasks.proofs.Rests.{StaysOrQueues, StaysOrWins, drained_or_ends, guard_stays_or_wins}
 pub use Rattle.backend_tasks.proofs.Rests.{queue_stays_or_queues, spares_is_other}
 pub use Rattle.backend_tasks.proofs.Turns.{turns_move_bin_tasks, turns_move_guard_tasks, turns_move_queue_tasks}
+pub use Rattle.backend_tasks.proofs.Bare.{Bare, BareAt, AskBare, CutBare, DrainBare, OfficeBare, PutBare, no_guard_task}
+pub use Rattle.backend_tasks.proofs.Others.{is_other, other_turn}
+pub use Rattle.backend_tasks.proofs.BareBackend.{bare-asked, bare-cutting, bare-in_vain, bare-obtained_as, bare-put_done}

@@ -52,7 +52,7 @@ use Rattle.backend_tasks.specs.Guards.{bin_guard, cut_guard, drain_guard, guard_
 use Rattle.backend_tasks.specs.Guards.{scan_guard, unite_guard}
 use Rattle.backend_tasks.specs.Laws.{FreshLocalsFit, TasksAreOfOnePosition, TurnsKeepBackendFits}
 use Rattle.backend_tasks.specs.Queue.{drain_queue, office_queue, put_queue, queue_task_at}
-use Rattle.backend_tasks.proofs.Bare.{bare_fits}
+use Rattle.backend_tasks.proofs.Bare.{bare_fits, bin_low}
 use Rattle.backend_tasks.proofs.BareBackend.{bare-asked, bare-cutting, bare-in_vain, bare-obtained_as, bare-put_done}
 use Rattle.backend_tasks.proofs.BareResets.{bare-binned_at, bare-united}
 use Rattle.backend_tasks.proofs.Cuts.{CutThenFits, UniteThenFits, cut_keeps_fits, unite_keeps_fits}
@@ -90,7 +90,7 @@ drain_turn : (l : Local) (at : DrainAt) (next : DrainNext) → FitsAt l (At.Drai
 drain_turn l at (DrainNext.Goes next) now fits = fits
 drain_turn l at (DrainNext.Waits bin) now fits = now
 drain_turn l at (DrainNext.Gives b rest) now fits = tt
-drain_turn l at DrainNext.Drained now fits = tt
+drain_turn l at DrainNext.Drained now fits = bin_low l.ask.want.granules
 
 put_turn : (l : Local) (at : PutAt) (next : PutNext) → PutFits (put_call l) at.step → PutThenFits (put_call l) next
     → BackendFits (put_as l at next).0
@@ -101,7 +101,7 @@ put_turn l at (PutNext.Gives b) now fits = tt
 
 on_turn : (l : Local) (rest : Option ℕ) → BackendFits (drained_on l rest).0
 on_turn l (Some first) = tt
-on_turn l None = tt
+on_turn l None = bin_low l.ask.want.granules
 
 left_turn : (l : Local) (job : OfficeFor) (end : OfficeEnd) → BackendFits (office_left l job end).0
 left_turn l OfficeFor.Ask end = bare_fits (obtained_as l end).0 (bare-obtained_as l end)

@@ -3,6 +3,7 @@ use Rattle.std.proofs.Common.{◌≡◌, ◌+◌, ◌<◌, ℕ, Bool, true, fals
 use Rattle.std.specs.Bool.{⊤}
 use Rattle.std.specs.Prelude.{Option, Some, None, ltb}
 use Rattle.std.proofs.lemmas.Bool.{ltb-true}
+use Rattle.pool_types.specs.Geometry.{bin_count}
 use Rattle.pool_types.specs.Sums.{capped}
 use Rattle.word_codes.specs.declared.guards.Guard.{Guard}
 use Rattle.word_codes.specs.Guards.{guard_of}
@@ -28,6 +29,7 @@ use Rattle.bin_laws.specs.Steps.{task_locked, task_unlinked}
 use Rattle.backend_tasks.specs.Bins.{scan_task, scan_task_left, won_left}
 use Rattle.backend_tasks.specs.Fits.{LengthFits, ScanFinds, ScanFits}
 use Rattle.backend_tasks.specs.Guards.{GuardGoesOn, scan_guard, scan_guard_left}
+use Rattle.backend_tasks.proofs.Bare.{bin_low}
 
 -- on guards: where a scan goes on, waits for a lock, begins again, or is done
 abbrev pub scan_guard_then : ScanStep → ScanNext → guards.Task
@@ -201,11 +203,17 @@ either_fits true x y one other = one
 either_fits false x y one other = other
 
 end_fits : (c : ScanCall) (s : ScanAt) (noted : Option ℕ) → ScanThenFits (scan_end c s noted)
-end_fits c s (Some bin) = tt
+end_fits c s (Some bin) = bin_low c.want.granules
 end_fits c s None = tt
 
 on_fits : (c : ScanCall) (s : ScanAt) → ScanThenFits (looks_on c s)
-on_fits c s = either_fits (ltb s.bin last_bin) _ _ tt (end_fits c s s.noted)
+on_fits c s = by (ltb s.bin last_bin) refl
+  where
+    by : (b : Bool) → ltb s.bin last_bin ≡ b
+        → ScanThenFits (cond b (ScanNext.Goes (record s { bin = s.bin + 1; step = ScanStep.Peek }))
+        (scan_end c s s.noted))
+    by true small = let low = ltb-true s.bin last_bin small in omega arith
+    by false large = end_fits c s s.noted
 
 tries_fits : (c : ScanCall) (s : ScanAt) (b : Block) → s.bin ≡ bin_of b.granules → ScanThenFits (tries c s b)
 tries_fits c s b is = either_fits (fits c.want b) _ _ is tt
@@ -226,9 +234,9 @@ visits_fits : (c : ScanCall) (s : ScanAt) (one : Option ℕ) → ScanThenFits (v
 visits_fits c s (Some first) = see_fits c (record s { seen = capped (s.seen + 1) }) first
 visits_fits c s None = tt
 
-peeked_fits : (c : ScanCall) (s : ScanAt) (one : Option ℕ) → ScanThenFits (peeked c s one)
-peeked_fits c s (Some first) = tt
-peeked_fits c s None = on_fits c s
+peeked_fits : (c : ScanCall) (s : ScanAt) (one : Option ℕ) → s.bin < bin_count → ScanThenFits (peeked c s one)
+peeked_fits c s (Some first) low = low
+peeked_fits c s None low = on_fits c s
 
 lock_fits : (s : ScanAt) (next : LockNext) → ScanThenFits (lock_tried s next)
 lock_fits s LockNext.Won = tt
@@ -257,7 +265,7 @@ unlocked_fits c s None = on_fits c s
 
 pub scan_keeps_fits : (c : ScanCall) (s : ScanAt) (step : ScanStep) (found : ℕ) → ScanFits s step
     → ScanFinds s step found → ScanThenFits (step_learn c s step found)
-scan_keeps_fits c s ScanStep.Peek found fits finds = peeked_fits c s (link_of found)
+scan_keeps_fits c s ScanStep.Peek found fits finds = peeked_fits c s (link_of found) fits
 scan_keeps_fits c s ScanStep.Lock found fits finds = lock_fits s (lock_learn (scan_lock c s) found)
 scan_keeps_fits c s ScanStep.Head found fits finds = visits_fits c s (link_of found)
 scan_keeps_fits c s (ScanStep.Length first) found fits finds = measure_fits c s first (guard_of found) finds

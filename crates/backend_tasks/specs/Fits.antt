@@ -1,5 +1,6 @@
 -- What a local says of blocks at work by itself, beside what its steps find.
-use Rattle.std.specs.Prelude.{◌≡◌, ℕ, false, ⊤, Option, Some, None}
+use Rattle.std.specs.Prelude.{◌≡◌, ◌<◌, ℕ, false, ⊤, Option, Some, None}
+use Rattle.pool_types.specs.Geometry.{bin_count}
 use Rattle.word_codes.specs.declared.guards.Guard.{Guard}
 use Rattle.word_codes.specs.Guards.{guard_of}
 use Rattle.backend_bins.specs.declared.bin.BinAt.{BinAt}
@@ -35,7 +36,10 @@ abbrev pub TookFits : ScanAt → Option Block → Type 0
 TookFits s (Some b) = s.bin ≡ bin_of b.granules
 TookFits s None = ⊤
 
+-- a bin that a scan looks at, and whose lock it is to take, is one of the pool's
 abbrev pub ScanFits : ScanAt → ScanStep → Type 0
+ScanFits s ScanStep.Peek = s.bin < bin_count
+ScanFits s ScanStep.Lock = s.bin < bin_count
 ScanFits s (ScanStep.Win b at) = s.bin ≡ bin_of b.granules
 ScanFits s (ScanStep.Out b at) = s.bin ≡ bin_of b.granules
 ScanFits s (ScanStep.Unlock took) = TookFits s took

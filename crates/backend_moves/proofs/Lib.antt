@@ -1,0 +1,13 @@
+pub mod Below
+pub mod Finish
+pub mod Sides
+pub mod Looks
+pub mod Wins
+pub mod BinJobs
+pub mod Splits
+pub mod CutNumbers
+pub mod Queues
+pub mod Cuts
+pub mod Scans
+pub mod Wholes
+pub mod CallerLemmas

@@ -1,0 +1,6 @@
+//! Turns with mail and with slabs that nobody keeps as steps of the whole of a pool.
+//!
+//! How it is stated is this project's own.
+#![tactic(auto)]
+
+pub mod laws;

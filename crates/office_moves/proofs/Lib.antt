@@ -1,0 +1,10 @@
+pub mod Settings
+pub mod Plain
+pub mod Came
+pub mod Settles
+pub mod Gives
+pub mod Removed
+pub mod Ends
+pub mod Turns
+pub mod Told
+pub mod CallerLemmas

@@ -1,0 +1,17 @@
+pub mod Below
+pub mod Frame
+pub mod GuardMoves
+pub mod BinMoves
+pub mod QueueMoves
+pub mod Words
+pub mod Regions
+pub mod Blocks
+pub mod Job
+pub mod Marking
+pub mod Winning
+pub mod Unlinking
+pub mod Binning
+pub mod Queueing
+pub mod Puts
+pub mod Drains
+pub mod CallerLemmas

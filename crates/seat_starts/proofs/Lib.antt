@@ -1,0 +1,12 @@
+pub mod Forgets
+pub mod Desks
+pub mod Jobs
+pub mod Blocks
+pub mod Mails
+pub mod Objects
+pub mod Says
+pub mod Rests
+pub mod Stages
+pub mod Starts
+pub mod Calls
+pub mod CallerLemmas

@@ -1,0 +1,5 @@
+pub mod Says
+pub mod Ties
+pub mod Turns
+pub mod Left
+pub mod Laws

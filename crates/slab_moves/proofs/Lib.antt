@@ -1,0 +1,10 @@
+pub mod Around
+pub mod Hands
+pub mod Rests
+pub mod Turns
+pub mod Caching
+pub mod Begun
+pub mod Emptied
+pub mod Large
+pub mod Moved
+pub mod CallerLemmas

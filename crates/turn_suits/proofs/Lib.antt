@@ -1,0 +1,9 @@
+pub mod Guards
+pub mod Lengths
+pub mod Seen
+pub mod Slabs
+pub mod PutWins
+pub mod ScanWins
+pub mod Wins
+pub mod Suits
+pub mod CallerLemmas

@@ -1,0 +1,6 @@
+//! What a good whole says to a seat just before its step suits the turn.
+//!
+//! How it is stated is this project's own.
+#![tactic(auto)]
+
+pub mod laws;
