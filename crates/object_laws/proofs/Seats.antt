@@ -103,7 +103,8 @@ end-stays : (g : Shadow) (s : Core) (h : Shadow) (r : Core) (seat unit : ℕ) (h
 end-stays g s h r seat unit head kind EndAt.Own rely (is, by, now) =
     let same = rely.slabs (slab_of unit) by in
     (is, same.keeper ∙ by, now ∙ ap (λ (q : HeapSlab). q.head) (sym same.same))
-end-stays g s h r seat unit head kind EndAt.Other rely (small, not) = (small, rely.strange (slab_of unit) not)
+end-stays g s h r seat unit head kind EndAt.Other rely (small, not) =
+    (small, λ is. rely.strange (slab_of unit) (not is))
 end-stays g s h r seat unit head kind EndAt.Large rely is = is
 end-stays g s h r seat unit head kind (EndAt.Lost mark) rely is = is
 

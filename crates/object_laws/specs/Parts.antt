@@ -218,11 +218,13 @@ IsLargeKind (Kind.Slab class) = ⊥
 IsLargeKind Kind.CachedSlab = ⊥
 IsLargeKind (Kind.Large first granules) = ⊤
 
--- which of the three exchanges ends a grant: by whose slab it is in, as was noted
+-- which of the three exchanges ends a grant: by whose slab it is in, as was noted; a kind that was read late can be none
+-- of an object, and then the grant is not held any more
 abbrev pub EndFits : Book → ℕ → ℕ → Option ℕ → Kind → EndAt → Type 0
 EndFits b seat unit head kind EndAt.Own =
     IsSlabKind kind × (b.keeper (slab_of unit) ≡ Keeper.By seat) × (head ≡ b.heads (slab_of unit))
-EndFits b seat unit head kind EndAt.Other = (IsLargeKind kind → ⊥) × (b.keeper (slab_of unit) ≢ Keeper.By seat)
+EndFits b seat unit head kind EndAt.Other =
+    (IsLargeKind kind → ⊥) × (IsSlabKind kind → b.keeper (slab_of unit) ≢ Keeper.By seat)
 EndFits b seat unit head kind EndAt.Large = IsLargeKind kind
 EndFits b seat unit head kind (EndAt.Lost mark) = ⊤
 

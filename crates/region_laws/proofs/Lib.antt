@@ -3,3 +3,4 @@ pub mod Granules
 pub mod Pools
 pub mod Keeps
 pub mod Examples
+pub mod CallerLemmas

@@ -36,7 +36,6 @@ use Rattle.pool_laws.specs.Steps.{HasNoPost, IsFree, WholeStep}
 use Rattle.pool_laws.specs.Wholes.{Whole, WholeGood}
 use Rattle.seat_ties.specs.Ties.{HeapTied, SaysItself}
 use Rattle.seat_ties.specs.Turns.{Here, goes_on, may_start, NotesHere, are, forgets, SeatRun, stays, steps_on}
-use Rattle.seat_starts.specs.Says.{IsObjectKind}
 
 -- the whole with these tasks of objects
 abbrev pub with_objects : (ℕ → Task) → Whole → Whole
@@ -102,7 +101,7 @@ end_small k w l unit class good same (Some kept) is =
     (tt, by, ap head_of mine)
 end_small k w l unit class good same None is = (
   (λ never. never),
-  λ by. absurd (
+  λ is_slab by. absurd (
       let none = subst (λ s. record_at s.records (slab_of unit) ≡ None) (sym same) is in
       let never : None ≡ Some (record_of w.pool.locals.book (slab_of unit)) =
       sym none ∙ good.shelf.pool.slabs.records.mine (slab_of unit) l.seat by in
@@ -110,13 +109,13 @@ end_small k w l unit class good same None is = (
 )
 
 end_fits : (k : Key) (w : Whole) (l : Local) (unit : ℕ) (kind : Kind) → WholeGood k w
-    → w.pool.kept l.seat ≡ l.heap.slabs → IsObjectKind kind
+    → w.pool.kept l.seat ≡ l.heap.slabs
     → EndFits w.pool.locals.book l.seat unit (head_at l (slab_of unit)) kind (end_by l unit kind)
-end_fits k w l unit Kind.Nothing good same object = absurd object
-end_fits k w l unit (Kind.Slab class) good same object =
+end_fits k w l unit Kind.Nothing good same = (λ never. never, λ never. absurd never)
+end_fits k w l unit (Kind.Slab class) good same =
     end_small k w l unit class good same (record_at l.heap.slabs.records (slab_of unit)) refl
-end_fits k w l unit Kind.CachedSlab good same object = absurd object
-end_fits k w l unit (Kind.Large first granules) good same object = tt
+end_fits k w l unit Kind.CachedSlab good same = (λ never. never, λ never. absurd never)
+end_fits k w l unit (Kind.Large first granules) good same = tt
 
 -- a slab that gives an object is the seat's, and its record is the book's
 pub record GivingSlab (w : Whole) (l : Local) (slab : ℕ) : Type 0 where
@@ -158,15 +157,15 @@ module _ (k : Key) (w : Whole) (l : Local) (good : WholeGood k w) (says : SaysIt
   looks_fit LookAt.Region e = tt
   looks_fit _ e = absurd (cc)
 
-  pub ends_fit : IsEnding l.call.stage → IsObjectKind (ended_object l).kind → (at : EndAt)
+  pub ends_fit : IsEnding l.call.stage → (at : EndAt)
       → at ≡ end_by l (ended_object l).unit (ended_object l).kind
       → TaskFits k w.pool.objects (core_in w.pool.mem w.pool.locals) l.seat
       (Task.Ending (end_call l) (ended_object l).kind at)
-  ends_fit ending object at is = (
+  ends_fit ending at is = (
     refl,
     ended_notes_fit l w.pool.objects (core_in w.pool.mem w.pool.locals) ending (note_fits k w l good notes),
     subst (EndFits w.pool.locals.book l.seat (end_call l).unit (end_call l).head (ended_object l).kind) (sym is)
-        (end_fits k w l (ended_object l).unit (ended_object l).kind good heap.kept object),
+        (end_fits k w l (ended_object l).unit (ended_object l).kind good heap.kept),
   )
 
   pub reads_fit : (slab head : ℕ) → Gives true l slab → head_at l slab ≡ Some head → l.last < last_grant

@@ -16,7 +16,6 @@ use Rattle.step_local.specs.declared.frames.LargeAt.{LargeAt}
 use Rattle.step_local.specs.declared.frames.Local.{Local}
 use Rattle.step_local.specs.declared.frames.SmallAt.{SmallAt}
 use Rattle.step_local.specs.declared.frames.Stage.{Stage}
-use Rattle.step_local.specs.Answers.{ended_object}
 use Rattle.step_tasks.specs.Mail.{mail_task_of}
 use Rattle.step_tasks.specs.Objects.{object_task_at, object_task_of, Starts}
 use Rattle.cache_tasks.specs.Cache.{cache_task_of}
@@ -29,7 +28,7 @@ use Rattle.step_fits.specs.Small as small
 use Rattle.pool_laws.specs.Steps.{HasNoPost, IsFree}
 use Rattle.pool_laws.specs.Wholes.{Whole, WholeGood}
 use Rattle.seat_ties.specs.Turns.{Here, goes_on, may_start, IsNoReset, StateHere, TasksHere}
-use Rattle.seat_starts.specs.Says.{IsObjectKind, StartSaysAt}
+use Rattle.seat_starts.specs.Says.{StartSaysAt}
 use Rattle.seat_starts.proofs.Desks.{calm, going}
 use Rattle.seat_starts.proofs.Objects.{ObjectBegun, box_stands, ends_fit, join_stands, looks_fit, object_starts}
 use Rattle.seat_starts.proofs.Objects.{reads_fit, rests_fit, same_object}
@@ -84,16 +83,15 @@ module _ (k : Key) (w : Whole) (l0 : Local) (good : WholeGood k w) where
       (looks_fit k w (here_at l0 (At.Look at)) good state.says state.heap state.notes at start)
 
   end_begun : (at : EndAt) (state : StateHere k w l0.seat (here_at l0 (At.End at)))
-      → IsObjectKind (ended_object (here_at l0 (At.End at))).kind
       → Here (w.pool.locals.tasks l0.seat) (object_task_of (here_at l0 (At.End at))) objects.Task.Away
       (Starts (here_at l0 (At.End at))) → ObjectBegun k w l0.seat (object_task_of (here_at l0 (At.End at)))
-  end_begun at state says (goes_on e) = same_object k w l0.seat (object_task_of (here_at l0 (At.End at))) e
-  end_begun at state says (may_start away start) =
+  end_begun at state (goes_on e) = same_object k w l0.seat (object_task_of (here_at l0 (At.End at))) e
+  end_begun at state (may_start away start) =
       object_starts k w l0.seat (object_task_of (here_at l0 (At.End at)))
       (quiet_free w (here_at l0 (At.End at)) state.tasks refl refl refl)
       (quiet_post w (here_at l0 (At.End at)) state.tasks refl refl) away tt tt
       (ends_fit k w (here_at l0 (At.End at)) good state.says state.heap state.notes
-      (ending_stage l0.call.stage state.says.fits.place.0) says at start)
+      (ending_stage l0.call.stage state.says.fits.place.0) at start)
 
   reading_begun : (slab head : ℕ) (state : StateHere k w l0.seat (here_at l0 (At.Small (SmallAt.Behind slab head))))
       → Here (w.pool.locals.tasks l0.seat) (objects.Task.Reading slab head) objects.Task.Away
@@ -164,7 +162,7 @@ module _ (k : Key) (w : Whole) (l0 : Local) (good : WholeGood k w) where
 
   pub objects_begun : (at : At) → IsApart at → ObjectsAt at
   objects_begun (At.Look at) apart state quiet says = look_begun at state state.tasks.objects
-  objects_begun (At.End at) apart state quiet says = end_begun at state says state.tasks.objects
+  objects_begun (At.End at) apart state quiet says = end_begun at state state.tasks.objects
   objects_begun (At.Post at) apart state quiet says =
       kept_object (At.Post at) state (going state.tasks.objects (λ never. never))
   objects_begun (At.Mailbox at) apart state quiet says = box_objects at state quiet says

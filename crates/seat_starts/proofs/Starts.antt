@@ -517,6 +517,7 @@ module _ (k : Key) (l0 : Local) (at : At) (apart : IsApart at) (quiet : NoReset 
         run = on w7 w8 (on w6 w7 (on w5 w6 (on w4 w5 (on w3 w4 (on w2 w3 (on w1 w2 o.run m.run) a.run) n.run) g.run)
             t.run) q.run) j.run;
         words = refl;
+        office = refl;
         tied = tied_last w7 seventh.1 n.are o.are m.are a.are g.are t.are q.are j;
       }
 

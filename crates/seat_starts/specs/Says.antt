@@ -1,23 +1,14 @@
--- What a local says by itself where a job starts: a grant that is ended is of an object, and a block that is put into
--- the cache is one of its bins.
+-- What has to be so where a job starts: a block that is put into the cache is one of its bins, and a slab that is to
+-- begin has no mail.
 use Rattle.std.specs.Prelude.{◌≡◌, ◌≤◌, ℕ, ⊤}
-use Rattle.word_codes.specs.declared.kinds.Kind.{Kind}
 use Rattle.step_local.specs.declared.frames.At.{At}
 use Rattle.step_local.specs.declared.frames.Local.{Local}
-use Rattle.step_local.specs.Answers.{ended_object}
 use Rattle.step_local.specs.Frames.{last_cache_bin}
 use Rattle.step_local.specs.declared.frames.SmallAt.{SmallAt}
 use Rattle.mail_laws.specs.Mail.{Mail, Task}
 use Rattle.pool_laws.specs.Wholes.{Whole}
 
-abbrev pub IsObjectKind : Kind → Type 0
-IsObjectKind Kind.Nothing = ⊥
-IsObjectKind (Kind.Slab class) = ⊤
-IsObjectKind Kind.CachedSlab = ⊥
-IsObjectKind (Kind.Large first granules) = ⊤
-
 abbrev pub StartSaysAt : Local → At → Type 0
-StartSaysAt l (At.End at) = IsObjectKind (ended_object l).kind
 StartSaysAt l (At.Keep at) = l.call.block.granules ≤ last_cache_bin
 StartSaysAt l _ = ⊤
 

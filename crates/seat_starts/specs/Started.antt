@@ -10,4 +10,5 @@ pub record Started (k : Key) (w : Whole) (l : Local) : Type 0 where
   pub later : Whole
   pub run : SeatRun k l.seat w later
   pub words : later.pool.mem ≡ w.pool.mem
+  pub office : later.office ≡ w.office
   pub tied : SeatTied k later l.seat l

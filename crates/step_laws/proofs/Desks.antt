@@ -132,6 +132,14 @@ module _ {R : Type 0} (out : R → List Region) (faults : R → ℕ) (got : R �
       pairs = grown_sound.pairs;
     })
 
+    -- it lies in the span, with its wall
+    pub comes_within : one.first + one.granules < old.limits.span
+    comes_within =
+        let placed = subst (IsWellPlaced old.limits.span (one.number + 1)) (get_or-append_seam old.records one [] one)
+        (grown_sound.each (length old.records) one (long old.records one)) in
+        let low = placed.within in
+        omega arith
+
     -- it has a granule, where another may come
     filled_by : 16384 ≤ bytes_for old granules
         → IsPlaced old.limits.span old.records (parity_of one) (whole_granules one) one.first one.granules

@@ -193,108 +193,143 @@ module _ {R : Type 0} (out : R → List Region) (faults : R → ℕ) (got : R �
     pub fits : Fits shadow m (put tasks t task) home (put desks t desk)
 
   module _ (m : Mem) (tasks : ℕ → Task) (home : Option (Desk R)) (desks : ℕ → Option (Desk R)) (t : ℕ) where
+    -- with one seat's task and desk, all fits
+    abbrev pub FitsWith : Shadow → Task → Option (Desk R) → Type 0
+    FitsWith g task desk = Fits g m (put tasks t task) home (put desks t desk)
+
     twice : (g : Shadow) (a task : Task) (d desk : Option (Desk R))
-        → Fits g m (put (put tasks t a) t task) home (put (put desks t d) t desk)
-        → Silenced m tasks home desks t task desk
-    twice g a task d desk fits = record {
-      shadow = g;
-      fits = subst (λ x. Fits g m (put tasks t task) home x) (put_twice desks t d desk)
-          (subst (λ x. Fits g m x home (put (put desks t d) t desk)) (put_twice tasks t a task) fits);
-    }
+        → Fits g m (put (put tasks t a) t task) home (put (put desks t d) t desk) → FitsWith g task desk
+    twice g a task d desk fits = subst (λ x. Fits g m (put tasks t task) home x) (put_twice desks t d desk)
+        (subst (λ x. Fits g m x home (put (put desks t d) t desk)) (put_twice tasks t a task) fits)
 
     -- the next turn, after silence that led so far
-    module _ (now : Local) (desk : Option (Desk R)) (s : Silenced m tasks home desks t (task_of now) desk) where
+    module _ (g : Shadow) (now : Local) (desk : Option (Desk R)) (s : FitsWith g (task_of now) desk) where
       here : (task : Task) → task_of now ≡ task → put tasks t (task_of now) t ≡ task
       here task is = put-same tasks t (task_of now) ∙ is
 
-      mine : Holds (task_of now) → Has (DeskFits out s.shadow) desk
-      mine holds = subst (Has (DeskFits out s.shadow)) (put-same desks t desk)
-          (s.fits.seats_fit t (subst Holds (sym (here (task_of now) refl)) holds))
+      mine : Holds (task_of now) → Has (DeskFits out g) desk
+      mine holds = subst (Has (DeskFits out g)) (put-same desks t desk)
+          (s.seats_fit t (subst Holds (sym (here (task_of now) refl)) holds))
 
-      goes : (task : Task) → OfficeRun k g0 m0 tasks0 s.shadow m
+      goes : (task : Task) → OfficeRun k g0 m0 tasks0 g m
           (put (put tasks t (task_of now)) t task) → (after : Option (Desk R))
-          → (Holds task → Has (DeskFits out s.shadow) after)
+          → (Holds task → Has (DeskFits out g) after)
           → ((first : ℕ) → task ≡ Task.At (OfficeJob.Give first) (OfficeAt.Back OfficeEnd.Given)
-          → IsGone s.shadow first) → Silenced m tasks home desks t task after
-      goes task run after has gone = twice s.shadow (task_of now) task desk after
-          (stay s.shadow m (put tasks t (task_of now)) home (put desks t desk) s.fits t task after run has gone)
+          → IsGone g first) → FitsWith g task after
+      goes task run after has gone = twice g (task_of now) task desk after
+          (stay g m (put tasks t (task_of now)) home (put desks t desk) s t task after run has gone)
 
-      pub goes_out : (task : Task) → task_of now ≡ Task.Away → IsOut task → Silenced m tasks home desks t task desk
+      pub goes_out : (task : Task) → task_of now ≡ Task.Away → IsOut task → FitsWith g task desk
       goes_out task away is = goes task
-          (out_runs k g0 m0 tasks0 s.shadow m (put tasks t (task_of now)) s.fits.run t task
+          (out_runs k g0 m0 tasks0 g m (put tasks t (task_of now)) s.run t task
           (here Task.Away away) is)
           desk (λ holds. absurd (out_free task is holds))
           (λ first back. absurd (out_back task (OfficeJob.Give first) OfficeEnd.Given is back))
 
-      pub begun_goes : (on : Local) → IsOutOrSame now on → Silenced m tasks home desks t (task_of on) desk
+      pub begun_goes : (on : Local) → IsOutOrSame now on → FitsWith g (task_of on) desk
       begun_goes on (inl (away, is)) = goes_out (task_of on) away is
-      begun_goes on (inr same) = subst (λ x. Silenced m tasks home desks t (task_of x) desk) (sym same) s
+      begun_goes on (inr same) = subst (λ x. FitsWith g (task_of x) desk) (sym same) s
 
-      pub back_goes : course now ≡ GiveOffice → Silenced m tasks home desks t (task_of (learn now Seen.Done).0) desk
+      pub back_goes : course now ≡ GiveOffice → FitsWith g (task_of (learn now Seen.Done).0) desk
       back_goes e =
           let p = putting now now.at e in
-          subst (λ x. Silenced m tasks home desks t x desk) (sym p.leads)
+          subst (λ x. FitsWith g x desk) (sym p.leads)
           (goes (Task.At p.job (OfficeAt.Unlock p.end))
-          (steps s.fits.run (OfficeStep.plain t p.job (OfficeAt.Back p.end) (here _ p.before) tt)) desk
+          (steps s.run (OfficeStep.plain t p.job (OfficeAt.Back p.end) (here _ p.before) tt)) desk
           (λ _. mine (subst Holds (sym p.before) tt)) (λ first back. absurd (cc)))
 
       pub taken_goes : (first : ℕ) → course now ≡ TakeOffice (OfficeJob.Give first)
-          → Silenced m tasks home desks t (task_of (learn now Seen.Given).0) desk
+          → FitsWith g (task_of (learn now Seen.Given).0) desk
       taken_goes first e =
           let p = taking now now.at (OfficeJob.Give first) e in
-          subst (λ x. Silenced m tasks home desks t x desk) (sym (p.leads Seen.Given))
+          subst (λ x. FitsWith g x desk) (sym (p.leads Seen.Given))
           (goes (Task.At (OfficeJob.Give first) (OfficeAt.Remove p.given))
-          (steps s.fits.run (OfficeStep.gives_back t first p.given (here _ p.before))) desk
+          (steps s.run (OfficeStep.gives_back t first p.given (here _ p.before))) desk
           (λ _. mine (subst Holds (sym p.before) tt)) (λ first back. absurd (cc)))
 
-    pub asked_goes : (now : Local) (old : Desk R) → Silenced m tasks home desks t (task_of now) (Some old)
+    -- the office was asked
+    module _ (g : Shadow) (now : Local) (old : Desk R) (s : FitsWith g (task_of now) (Some old)) (granules : ℕ)
+        (new : Desk R) (e : course now ≡ TakeOffice (OfficeJob.Obtain granules)) where
+      -- it fitted the regions that were out
+      pub asked_fits : DeskFits out g old
+      asked_fits =
+          let p = taking now now.at (OfficeJob.Obtain granules) e in
+          mine g now (Some old) s (subst Holds (sym p.before) tt) old refl
+
+      pub comes_goes : (one : RegionRec) → (office_of out faults got passed k).asks old granules (Ok one) new
+          → FitsWith (shadow_came one g) (task_of (learn now (Seen.Obtained one)).0) (Some new)
+      comes_goes one asks =
+          let p = taking now now.at (OfficeJob.Obtain granules) e in
+          subst (λ x. FitsWith (shadow_came one g) x (Some new)) (sym (p.leads (Seen.Obtained one)))
+          (twice (shadow_came one g) (task_of now) (Task.At (OfficeJob.Obtain granules) (OfficeAt.Base one))
+          (Some old) (Some new)
+          (come g m (put tasks t (task_of now)) home (put desks t (Some old)) s t granules p.given one old new
+          granules (put-same tasks t (task_of now) ∙ p.before) (put-same desks t (Some old)) asks))
+
+      pub refused_goes : (error : ObtainError)
+          → (office_of out faults got passed k).asks old granules (Err error) new
+          → FitsWith g (task_of (learn now (Seen.Refused error)).0) (Some new)
+      refused_goes error asks =
+          let p = taking now now.at (OfficeJob.Obtain granules) e in
+          subst (λ x. FitsWith g x (Some new)) (sym (p.leads (Seen.Refused error)))
+          (goes g now (Some old) s (Task.At (OfficeJob.Obtain granules) (OfficeAt.Back (OfficeEnd.Refused error)))
+          (steps s.run (OfficeStep.refused t granules p.given error (put-same tasks t (task_of now) ∙ p.before)))
+          (Some new)
+          (λ _. has_some (DeskFits out g) new (refused_fits out faults got g old (asked_granules k granules)
+          error new asks asked_fits)) (λ first back. absurd (cc)))
+
+    pub asked_goes : (g : Shadow) (now : Local) (old : Desk R) → FitsWith g (task_of now) (Some old)
         → (granules : ℕ) (answer : Result RegionRec ObtainError) (new : Desk R)
         → course now ≡ TakeOffice (OfficeJob.Obtain granules)
         → (office_of out faults got passed k).asks old granules answer new
         → Silenced m tasks home desks t (task_of (learn now (seen_answer answer)).0) (Some new)
-    asked_goes now old s granules (Ok one) new e asks =
-        let p = taking now now.at (OfficeJob.Obtain granules) e in
-        subst (λ x. Silenced m tasks home desks t x (Some new)) (sym (p.leads (Seen.Obtained one)))
-        (twice (shadow_came one s.shadow) (task_of now) (Task.At (OfficeJob.Obtain granules) (OfficeAt.Base one))
-        (Some old) (Some new)
-        (come s.shadow m (put tasks t (task_of now)) home (put desks t (Some old)) s.fits t granules p.given one old new
-        granules (put-same tasks t (task_of now) ∙ p.before) (put-same desks t (Some old)) asks))
-    asked_goes now old s granules (Err error) new e asks =
-        let p = taking now now.at (OfficeJob.Obtain granules) e in
-        let at = put-same tasks t (task_of now) ∙ p.before in
-        let had = s.fits.seats_fit t (subst Holds (sym at) tt) old (put-same desks t (Some old)) in
-        subst (λ x. Silenced m tasks home desks t x (Some new)) (sym (p.leads (Seen.Refused error)))
-        (goes now (Some old) s (Task.At (OfficeJob.Obtain granules) (OfficeAt.Back (OfficeEnd.Refused error)))
-        (steps s.fits.run (OfficeStep.refused t granules p.given error at)) (Some new)
-        (λ _. has_some (DeskFits out s.shadow) new (refused_fits out faults got s.shadow old (asked_granules k granules)
-        error new asks had)) (λ first back. absurd (cc)))
+    asked_goes g now old s granules (Ok one) new e asks =
+        record { shadow = shadow_came one g; fits = comes_goes g now old s granules new e one asks }
+    asked_goes g now old s granules (Err error) new e asks =
+        record { shadow = g; fits = refused_goes g now old s granules new e error asks }
+
+    -- a state in which all fits, before any turn
+    pub rests_fit : (g : Shadow) → Fits g m tasks home desks → (l : Local) (d after : Option (Desk R))
+        → Passes (office_of out faults got passed k) (passed_of l) d after → tasks t ≡ task_of l → desks t ≡ d
+        → FitsWith g (task_of l) after
+    rests_fit g f l d after passes is has = stay g m tasks home desks f t (task_of l) after
+        (subst (OfficeRun k g0 m0 tasks0 g m) (sym (put_back tasks t (task_of l) is)) f.run)
+        (λ holds. passes_has g (passed_of l) d after passes
+        (λ x e. f.gone t x (is ∙ passed_task l l.at x e))
+        (subst (Has (DeskFits out g)) has (f.seats_fit t (subst Holds (sym is) holds))))
+        (λ first back. f.gone t first (is ∙ back))
 
     -- silence after a state in which all fits
     pub silence_fits : (g : Shadow) → Fits g m tasks home desks → {l : Local} {d : Option (Desk R)} {now : Local}
         {after : Option (Desk R)} → Silent (office_of out faults got passed k) l d now after → tasks t ≡ task_of l
         → desks t ≡ d → Silenced m tasks home desks t (task_of now) after
-    silence_fits g f {l} {d} (rests {after = after} passes) is has = record {
-      shadow = g;
-      fits = stay g m tasks home desks f t (task_of l) after
-          (subst (OfficeRun k g0 m0 tasks0 g m) (sym (put_back tasks t (task_of l) is)) f.run)
-          (λ holds. passes_has g (passed_of l) d after passes
-          (λ x e. f.gone t x (is ∙ passed_task l l.at x e))
-          (subst (Has (DeskFits out g)) has (f.seats_fit t (subst Holds (sym is) holds))))
-          (λ first back. f.gone t first (is ∙ back));
-    }
+    silence_fits g f {l} {d} (rests {after = after} passes) is has =
+        record { shadow = g; fits = rests_fit g f l d after passes is has }
     silence_fits g f (begins {now = now} {desk = desk} silent request) is has =
-        begun_goes now desk (silence_fits g f silent is has) (begun now request).0 (begun_out now request)
+        let s = silence_fits g f silent is has in record {
+          shadow = s.shadow;
+          fits = begun_goes s.shadow now desk s.fits (begun now request).0 (begun_out now request);
+        }
     silence_fits g f (resets {now = now} {desk = desk} silent reset) is has =
-        begun_goes now desk (silence_fits g f silent is has) (reset_begun now reset).0 (reset_begun_out now reset)
+        let s = silence_fits g f silent is has in record {
+          shadow = s.shadow;
+          fits = begun_goes s.shadow now desk s.fits (reset_begun now reset).0 (reset_begun_out now reset);
+        }
     silence_fits g f (answers {now = now} {desk = desk} silent e) is has =
-        let leads = answered_out now e in
-        goes_out now desk (silence_fits g f silent is has) (task_of (learn now Seen.Done).0) leads.0 leads.1
+        let s = silence_fits g f silent is has in
+        let leads = answered_out now e in record {
+          shadow = s.shadow;
+          fits = goes_out s.shadow now desk s.fits (task_of (learn now Seen.Done).0) leads.0 leads.1;
+        }
     silence_fits g f (obtains {now = now} {desk = old} silent granules answer after e asks) is has =
-        asked_goes now old (silence_fits g f silent is has) granules answer after e asks
+        let s = silence_fits g f silent is has in
+        asked_goes s.shadow now old s.fits granules answer after e asks
     silence_fits g f (takes_out {now = now} {desk = desk} silent first e) is has =
-        taken_goes now (Some desk) (silence_fits g f silent is has) first e
+        let s = silence_fits g f silent is has in
+        record { shadow = s.shadow; fits = taken_goes s.shadow now (Some desk) s.fits first e }
     silence_fits g f (puts_back {now = now} {desk = desk} silent e) is has =
-        back_goes now desk (silence_fits g f silent is has) e
+        let s = silence_fits g f silent is has in
+        record { shadow = s.shadow; fits = back_goes s.shadow now desk s.fits e }
 
   -- a step on a word
   module _ (g : Shadow) (m : Mem) (tasks : ℕ → Task) (home : Option (Desk R)) (desks : ℕ → Option (Desk R))

@@ -104,10 +104,10 @@ module _ {R : Type 0} (out : R → List Region) (faults : R → ℕ) (got : R �
   -- a step on a word, of a seat whose task and desk silence led to
   module _ (m : Mem) (tasks : ℕ → Task) (home : Option (Desk R)) (desks : ℕ → Option (Desk R)) (l : Local)
       (desk : Option (Desk R)) where
-    abbrev Before : ℕ → Shadow → Type 0
+    abbrev pub Before : ℕ → Shadow → Type 0
     Before seat g = Fit g m (put tasks seat (task_of l)) home (put desks seat desk)
 
-    abbrev After : ℕ → Shadow → Type 0
+    abbrev pub After : ℕ → Shadow → Type 0
     After seat g = Fit g (after k m (course l))
         (put tasks seat (task_of (learn l (seen_by (course l) (found m (course l)))).0))
         (home_after (move_of l.at (found m (course l))) home desk)
@@ -139,7 +139,7 @@ module _ {R : Type 0} (out : R → List Region) (faults : R → ℕ) (got : R �
 
   module _ (words : List ℕ) (home : Option (Desk R)) (entries : ℕ → Entry (Desk R)) (seat : ℕ) (l : Local)
       (desk : Option (Desk R)) where
-    abbrev Next : Shadow → Mem → ℕ → Type 0
+    abbrev pub Next : Shadow → Mem → ℕ → Type 0
     Next g m value = Fit g m
         (tasks_of (put entries seat (learnt (entries seat) l home desk value)))
         (home_after (move_of l.at value) home desk)
@@ -159,7 +159,20 @@ module _ {R : Type 0} (out : R → List Region) (faults : R → ℕ) (got : R �
         (put (tasks_of entries) seat (task_of e.local)) h' x)
         (sym (put_mapped {B = Option (Desk R)} (λ e. e.desk) entries seat e)) fits)
 
-    -- a step after silence
+    -- a step after silence, where all fits with these regions
+    pub leaves_fit : (g : Shadow)
+        → Before (memory k words) (tasks_of entries) home (λ o. (entries o).desk) l desk seat g
+        → has_word (course l) ≡ true → l.seat ≡ seat → seat < 64
+        → memory k (after_action k words (course l)) ≡ after k (memory k words) (course l)
+        → finds k words (course l) ≡ found (memory k words) (course l)
+        → Next (shadow_by l.at g) (memory k (after_action k words (course l))) (finds k words (course l))
+    leaves_fit g fits word number few leaves sees =
+        let m = memory k words in
+        let h = shadow_by l.at g in
+        subst (λ x. Next h x (finds k words (course l))) (sym leaves)
+        (subst (λ v. Next h (after k m (course l)) v) (sym sees)
+        (ended h (seat_fits m (tasks_of entries) home (λ o. (entries o).desk) l desk seat g word number few fits)))
+
     pub next_fits : IsFit words home entries
         → Silent (office_of out faults got passed k) (entries seat).local (entries seat).desk l desk
         → has_word (course l) ≡ true → l.seat ≡ seat → seat < 64
@@ -169,16 +182,11 @@ module _ {R : Type 0} (out : R → List Region) (faults : R → ℕ) (got : R �
         (home_after (move_of l.at (finds k words (course l))) home desk)
         (put entries seat (learnt (entries seat) l home desk (finds k words (course l))))
     next_fits fit silent word number few leaves sees =
-        let m = memory k words in
-        let s = silence_fits out faults got passed k g0 m0 tasks0 good0 m (tasks_of entries) home
+        let s = silence_fits out faults got passed k g0 m0 tasks0 good0 (memory k words) (tasks_of entries) home
         (λ o. (entries o).desk) seat fit.shadow fit.fits silent refl refl in
-        let g = shadow_by l.at s.shadow in
         record {
-          shadow = g;
-          fits = subst (λ x. Next g x (finds k words (course l))) (sym leaves)
-              (subst (λ v. Next g (after k m (course l)) v) (sym sees)
-              (ended g (seat_fits m (tasks_of entries) home (λ o. (entries o).desk) l desk seat s.shadow word number few
-              s.fits)));
+          shadow = shadow_by l.at s.shadow;
+          fits = leaves_fit s.shadow s.fits word number few leaves sees;
         }
 
   -- a state in which all fits, and each that it leads to
@@ -206,22 +214,25 @@ module _ {R : Type 0} (out : R → List Region) (faults : R → ℕ) (got : R �
   IsFitFromNew words home entries = IsFit out faults got passed k no_regions fresh (λ seat. Task.Away)
       fresh_offices_have_no_regions words home entries
 
+  pub new_fits : (first : Desk R) → IsSound out first
+      → Fits out faults got passed k no_regions fresh (λ seat. Task.Away) fresh_offices_have_no_regions no_regions
+      (memory k (replicate (words_of k) 0)) (tasks_of {D = Desk R} (first_entry k)) (Some first)
+      (λ o. (first_entry {D = Desk R} k o).desk)
+  new_fits first sound = record {
+    run = subst (λ m. OfficeRun k no_regions fresh (λ seat. Task.Away) no_regions m (λ seat. Task.Away))
+        (sym (new_rows_are_fresh k)) starts;
+    home_fits = λ _. has_some (DeskFits out no_regions) first (record {
+      sound = sound;
+      counter = omega arith;
+      records = λ _. record { known = λ s one is. absurd (cc); filled = λ s one is. absurd (cc) };
+    });
+    seats_fit = λ t holds. absurd holds;
+    gone = λ t x is. absurd (cc);
+  }
+
   first_fits : (first : Desk R) → IsSound out first
       → IsFitFromNew (replicate (words_of k) 0) (Some first) (first_entry k)
-  first_fits first sound = record {
-    shadow = no_regions;
-    fits = record {
-      run = subst (λ m. OfficeRun k no_regions fresh (λ seat. Task.Away) no_regions m (λ seat. Task.Away))
-          (sym (new_rows_are_fresh k)) starts;
-      home_fits = λ _. has_some (DeskFits out no_regions) first (record {
-        sound = sound;
-        counter = omega arith;
-        records = λ _. record { known = λ s one is. absurd (cc); filled = λ s one is. absurd (cc) };
-      });
-      seats_fit = λ t holds. absurd holds;
-      gone = λ t x is. absurd (cc);
-    };
-  }
+  first_fits first sound = record { shadow = no_regions; fits = new_fits first sound }
 
   pub run_fits : (first : Desk R) → IsSound out first → k.seats ≤ 64 → {words : List ℕ} {home : Option (Desk R)}
       {entries : ℕ → Entry (Desk R)} → Run (office_of out faults got passed k) k first words home entries
@@ -258,12 +269,12 @@ lie_apart g m tasks good s other e a b here there = equal_or s other (λ same. s
     (good.out_fits.apart s other a.one b.one ne (good.records_fit.known s a.one a.live)
     (good.records_fit.known other b.one b.live))))
 
-few_seats : (policy : Policy) (limits : Limits) → IsAllowed policy limits → limits.seats ≤ 64
+pub few_seats : (policy : Policy) (limits : Limits) → IsAllowed policy limits → limits.seats ≤ 64
 few_seats policy limits allowed = let is_in = allowed.limits_in.0.0 in grind (arith, nat_tests)
 
 module _ {R : Type 0} (out : R → List Region) (faults : R → ℕ) (got : R → ℕ → Option Region → R → Type 0)
     (passed : R → Region → Bool → R → Type 0) where
-  first_sound : (policy : Policy) (limits : Limits) (raw : R) → IsAllowed policy limits → out raw ≡ []
+  pub first_sound : (policy : Policy) (limits : Limits) (raw : R) → IsAllowed policy limits → out raw ≡ []
       → IsSound out (desk_of policy limits [] 0 false raw)
   first_sound policy limits raw allowed none = record {
     allowed = allowed;

@@ -1,0 +1,3 @@
+mod Links
+mod Runs
+pub mod CallerLemmas
